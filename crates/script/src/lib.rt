@@ -1,0 +1,8 @@
+// Packing-line scripts: what a script is, what its text is, and how a text is read.
+mod rules;
+mod scripts;
+
+pub use rules::Act;
+pub use rules::ReadError;
+pub use rules::Rule;
+pub use scripts::Script;

@@ -1,0 +1,37 @@
+// The parts of a script, and why a text is refused.
+
+/// One change of the register, with its mark.
+#[derive(Clone, Copy, PartialEq, Eq, Debug)]
+pub enum Act {
+    Push(u8),
+    Inject(u8),
+    Pop(u8),
+    Eject(u8),
+}
+
+/// A move from one state to another that carries out its acts, one after the other.
+#[derive(Drop)]
+pub struct Rule {
+    pub from: u8,
+    pub to: u8,
+    pub acts: Vec<Act>,
+}
+
+/// Why no script was read. All but the first and the last name the line, counted from 1.
+#[derive(Clone, Copy, PartialEq, Eq, Debug)]
+pub enum ReadError {
+    /// The text is empty or too long.
+    Size,
+    /// No line with its line feed, the word that is due and that word's number of fields.
+    Shape(u16),
+    /// A number that is not well formed.
+    Number(u16),
+    /// A number out of its range.
+    Range(u16),
+    /// Marks or acts that are not well formed, or too many of them.
+    Letters(u16),
+    /// A goal that does not rise, one goal or one rule too many.
+    Sequence(u16),
+    /// No memory for the script: this says nothing of the text.
+    Memory,
+}
