@@ -15,12 +15,16 @@ use Rattle.script.specs.Tables.{Row, table}
 use Rattle.script.specs.declared.rules.ReadError.{ReadError}
 use Rattle.script.specs.declared.rules.ReadError.the-variants.{Size, Shape, Sequence}
 
+-- the row begins with the word and has so many fields
+abbrev pub shaped : List ℕ → ℕ → Row → Bool
+shaped word count row = sameBytes (field 0 row) word && eqb (length row) count
+
 -- the row of line n: only a row with another behind it ends with a line feed
 unfoldable pub due : ℕ → List ℕ → ℕ → List Row → Result Row ReadError
 due n word count [] = Err (Shape n)
 due n word count (row ∷ []) = Err (Shape n)
 due n word count (row ∷ next ∷ rows) = do
-  ask (sameBytes (field 0 row) word && eqb (length row) count) (Shape n)
+  ask (shaped word count row) (Shape n)
   Ok row
 
 pub record Head : Type 0 where

@@ -4,5 +4,7 @@ mod scripts;
 
 pub use rules::Act;
 pub use rules::ReadError;
+pub use rules::ReadErrorFromAlloc;
+pub use rules::ReadErrorFromRefused;
 pub use rules::Rule;
 pub use scripts::Script;

@@ -1,7 +1,11 @@
 // The parts of a script, and why a text is refused.
+ghost use mathlib.Core.Path.{_≡_};
+ghost use Rattle.script.specs.declared.rules.ReadError.the-variants.{Memory};
+use std::alloc::AllocError;
+use std::alloc::Refused;
 
 /// One change of the register, with its mark.
-#[derive(Clone, Copy, PartialEq, Eq, Debug)]
+#[derive(Clone, Copy)]
 pub enum Act {
     Push(u8),
     Inject(u8),
@@ -18,7 +22,7 @@ pub struct Rule {
 }
 
 /// Why no script was read. All but the first and the last name the line, counted from 1.
-#[derive(Clone, Copy, PartialEq, Eq, Debug)]
+#[derive(Clone, Copy)]
 pub enum ReadError {
     /// The text is empty or too long.
     Size,
@@ -34,4 +38,20 @@ pub enum ReadError {
     Sequence(u16),
     /// No memory for the script: this says nothing of the text.
     Memory,
+}
+
+pub impl From<AllocError> for ReadError as ReadErrorFromAlloc {
+    ghost converts = { λ _ r. r ≡ Memory };
+
+    fn from(_e: AllocError) -> ReadError {
+        ReadError::Memory
+    }
+}
+
+pub impl<T: Drop> From<Refused<T>> for ReadError as ReadErrorFromRefused {
+    ghost converts = { λ _ r. r ≡ Memory };
+
+    fn from(_e: Refused<T>) -> ReadError {
+        ReadError::Memory
+    }
 }

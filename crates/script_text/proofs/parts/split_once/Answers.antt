@@ -1,0 +1,25 @@
+use native.Mathlib.Nat.{sub-zero}
+use native.Mathlib.Omega.{arith}
+use mathlib.Core.Bool.{true}
+use mathlib.Core.Path.{_≡_}
+use Rattle.std.proofs.shelf.Lists.{length-drop, length-take-le, take-all, take-rest}
+use Rattle.script_text.proofs.Splitting.{cut, free, free-more, parts-alone}
+use Rattle.script_text.proofs.parts.split_once.Needs as need
+
+pub returns-then-b-separator : need.returns-then-b-separator
+returns-then-b-separator c =
+    record {
+      parts = simp (sub-zero, take-rest) (cut (c .args .separator) (c .args .text .now) (c .loop-i .i) (c .loop-i-test .taken) (c .loop-i .inv) (c .if-b-separator .taken));
+      shorter = simp (sub-zero, take-rest, length-drop, length-take-le (c .loop-i .i) (c .args .text .now) (c .loop-i .kept .i-end)) (omega arith);
+    }
+
+pub loop-i-again : need.loop-i-again
+loop-i-again c =
+    free-more (c .args .separator) (c .args .text .now) (c .loop-i .i) (c .loop-i-test .taken) (c .loop-i .inv) (c .if-b-separator .left)
+
+pub returns : need.returns
+returns c =
+    let clear : free (c .args .separator) (c .args .text .now) ≡ true =
+    rw (take-all (c .loop-i .i) (c .args .text .now) (c .loop-i-test .left)) at (c .loop-i .inv)
+    in
+    record { parts = parts-alone (c .args .separator) (c .args .text .now) clear; shorter = tt }

@@ -1,0 +1,5 @@
+// Reading and writing script texts.
+mod letters;
+mod numbers;
+mod parts;
+mod reader;
