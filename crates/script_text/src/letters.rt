@@ -1,11 +1,13 @@
 // Marks and acts as a text has them.
-ghost use lib.ListN.{length};
-ghost use mathlib.Core.Bool.{cond};
-ghost use mathlib.Core.List.{[]};
 ghost use mathlib.Core.Path.{_≡_};
-ghost use Rattle.script.specs.Fields.{actOf, acts};
+ghost use Rattle.script.specs.Fields.{actOf, actsIn};
 ghost use Rattle.script.specs.Soundness.{every, isMark};
+ghost use Rattle.script_text.specs.Answers.{Answers};
+ghost use Rattle.std.specs.Of.Vec.{vec-items};
 use script::Act;
+use script::ReadError;
+use script::ReadErrorFromRefused;
+use std::alloc::Global;
 
 fn is_mark(b: u8) -> bool
     ensures { λ r. ⌜ r ≡ isMark b ⌝ }
@@ -26,7 +28,7 @@ pub(crate) fn are_marks(field: &[u8]) -> bool
 }
 
 /// The act of a letter and a mark.
-pub(crate) fn act_of(letter: u8, mark: u8) -> Option<Act>
+fn act_of(letter: u8, mark: u8) -> Option<Act>
     ensures { λ r. ⌜ r ≡ actOf letter mark ⌝ }
 {
     if !is_mark(mark) {
@@ -38,5 +40,30 @@ pub(crate) fn act_of(letter: u8, mark: u8) -> Option<Act>
         b'o' => Some(Act::Pop(mark)),
         b'e' => Some(Act::Eject(mark)),
         _ => None,
+    }
+}
+
+/// The acts of a field of the line: two bytes each, and at most four of them.
+pub(crate) fn acts_of(heap: Global, field: &[u8], line: u16) -> Result<Vec<Act>, ReadError>
+    ensures { λ r. ⌜ Answers (actsIn line (now (field .entry))) vec-items r ⌝ }
+{
+    let fault = ReadError::Letters(line);
+    if field.len() > 8 {
+        return Err(fault);
+    }
+    let mut acts = Vec::new(heap);
+    let mut rest = field;
+    loop {
+        match rest {
+            [] => return Ok(acts),
+            [letter, mark, tail @ ..] => {
+                let Some(act) = act_of(*letter, *mark) else {
+                    return Err(fault);
+                };
+                acts.push(act)?;
+                rest = tail;
+            }
+            [_] => return Err(fault),
+        }
     }
 }

@@ -3,15 +3,15 @@ ghost use lib.ListN.{length, getD, drop};
 ghost use mathlib.Core.List.{[]};
 ghost use mathlib.Core.Path.{_≡_};
 ghost use Rattle.script.specs.Fields.{field, numberIn, numeralIn, stateIn, marksIn, actsIn};
-ghost use Rattle.script.specs.declared.rules.ReadError.the-variants.{Memory};
+ghost use Rattle.script_text.specs.Answers.{Answers};
 ghost use Rattle.script_text.specs.Places.{Passed, fieldsLeft};
 ghost use Rattle.std.specs.Of.Vec.{vec-items};
-ghost use Rattle.std.specs.Results.{Cases};
-ghost use Rattle.std.specs.declared.result.Result.the-variants.{Ok, Err};
 use super::Reader;
+use crate::letters::acts_of;
 use crate::letters::are_marks;
 use crate::numbers::numeral;
 use crate::parts::split_once;
+use script::Act;
 use script::ReadError;
 use script::ReadErrorFromAlloc;
 use std::alloc::Global;
@@ -71,7 +71,7 @@ impl<'a> Reader<'a> {
 
     /// The next field as marks, at most so many.
     pub(crate) fn marks(&mut self, heap: Global, most: u8) -> Result<Vec<u8>, ReadError>
-        ensures value { λ r. ⌜ Cases r (λ v. marksIn (now (self .entry) .line) most (field 0 (fieldsLeft (now (self .entry)))) ≡ Ok (vec-items v)) (λ e. (e ≡ Memory → ⊥) → marksIn (now (self .entry) .line) most (field 0 (fieldsLeft (now (self .entry)))) ≡ Err e) ⌝ }
+        ensures value { λ r. ⌜ Answers (marksIn (now (self .entry) .line) most (field 0 (fieldsLeft (now (self .entry))))) vec-items r ⌝ }
         ensures passed { λ _. ⌜ Passed (now (self .entry)) (now (self .exit)) ⌝ }
     {
         let field = self.field();
@@ -79,5 +79,14 @@ impl<'a> Reader<'a> {
             return Err(ReadError::Letters(self.line));
         }
         Ok(field.to_vec(heap)?)
+    }
+
+    /// The next field as acts.
+    pub(crate) fn acts(&mut self, heap: Global) -> Result<Vec<Act>, ReadError>
+        ensures value { λ r. ⌜ Answers (actsIn (now (self .entry) .line) (field 0 (fieldsLeft (now (self .entry))))) vec-items r ⌝ }
+        ensures passed { λ _. ⌜ Passed (now (self .entry)) (now (self .exit)) ⌝ }
+    {
+        let field = self.field();
+        acts_of(heap, field, self.line)
     }
 }

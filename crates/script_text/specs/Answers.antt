@@ -1,0 +1,11 @@
+-- What a call that reads answers: what the definition says, but for want of memory, which says nothing of the text.
+use mathlib.Core.Path.{_≡_}
+use Rattle.std.specs.declared.result.Result.{Result}
+use Rattle.std.specs.declared.result.Result.the-variants.{Ok, Err}
+use Rattle.script.specs.declared.rules.ReadError.{ReadError}
+use Rattle.script.specs.declared.rules.ReadError.the-variants.{Memory}
+
+-- `meaning` is what a value of the code stands for in the definitions
+abbrev pub Answers : {X Y : Type 0} → Result Y ReadError → (X → Y) → Result X ReadError → Type 0
+Answers defined meaning (Ok x) = defined ≡ Ok (meaning x)
+Answers defined meaning (Err e) = (e ≡ Memory → ⊥) → defined ≡ Err e
