@@ -1,3 +1,4 @@
 pub mod Acts
-pub mod Lines
+pub mod Tables
+pub mod Rising
 pub mod Splitting

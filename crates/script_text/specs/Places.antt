@@ -43,3 +43,8 @@ pub record Opened (word : List ℕ) (count : ℕ) (before after : Reader) : Type
   pub fields : fieldsLeft after ≡ drop 1 (firstRow before)
   pub rows : rowsLeft after ≡ drop 1 (rowsLeft before)
   pub line : after .line ≡ before .line + 1
+
+-- the reader went past one line
+pub record Onward (before after : Reader) : Type 0 where
+  pub rows : rowsLeft after ≡ drop 1 (rowsLeft before)
+  pub line : after .line ≡ before .line + 1

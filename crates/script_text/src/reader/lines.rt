@@ -70,4 +70,11 @@ impl<'a> Reader<'a> {
         self.field();
         Ok(())
     }
+
+    /// The number of the line that is being read.
+    pub(crate) fn line(&self) -> u16
+        ensures { λ r. ⌜ r ≡ now (self .entry) .line ⌝ }
+    {
+        self.line
+    }
 }

@@ -1,6 +1,6 @@
 use borrow.Author.Needs.{needs}
 use mathlib.Core.Path.{_∙_}
-use Rattle.script_text.proofs.Lines.{ended-table}
+use Rattle.script_text.proofs.Tables.{ended-table}
 use Rattle.script_text.proofs.reader.Reader.at_end.Needs as need
 
 pub returns : need.returns

@@ -1,5 +1,5 @@
 use borrow.Author.Needs.{needs}
-use Rattle.script_text.proofs.Lines.{first-row}
+use Rattle.script_text.proofs.Tables.{first-row}
 use Rattle.script_text.proofs.reader.Reader.begins.Needs as need
 
 pub returns : need.returns

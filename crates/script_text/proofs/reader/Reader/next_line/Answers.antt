@@ -2,7 +2,7 @@ use mathlib.Core.Path.{ap, _∙_}
 use lib.ListN.{drop}
 use Prim.Native.Nat.{_+_}
 use Rattle.script.specs.Tables.{Row}
-use Rattle.script_text.proofs.Lines.{due-last, due-unlike, due-alike, row-line, rows-line}
+use Rattle.script_text.proofs.Tables.{due-last, due-unlike, due-alike, row-line, rows-line}
 use Rattle.script_text.proofs.reader.Reader.next_line.Needs as need
 
 pub returns-in-rest : need.returns-in-rest
