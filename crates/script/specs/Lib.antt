@@ -1,5 +1,6 @@
 pub mod Contents
 pub mod Soundness
+pub mod Scripts
 pub mod Tables
 pub mod Texts
 pub mod Fields

@@ -1,4 +1,6 @@
 pub mod Acts
 pub mod Tables
 pub mod Rising
+pub mod Following
+pub mod Refusing
 pub mod Splitting

@@ -2,10 +2,18 @@
 use mathlib.Core.Path.{_≡_}
 use Rattle.std.specs.declared.result.Result.{Result}
 use Rattle.std.specs.declared.result.Result.the-variants.{Ok, Err}
+use Rattle.script.specs.Contents.{Content}
+use Rattle.script.specs.Scripts.{content}
 use Rattle.script.specs.declared.rules.ReadError.{ReadError}
 use Rattle.script.specs.declared.rules.ReadError.the-variants.{Memory}
+use Rattle.script.specs.declared.scripts.Script.{Script}
 
 -- `meaning` is what a value of the code stands for in the definitions
 abbrev pub Answers : {X Y : Type 0} → Result Y ReadError → (X → Y) → Result X ReadError → Type 0
 Answers defined meaning (Ok x) = defined ≡ Ok (meaning x)
 Answers defined meaning (Err e) = (e ≡ Memory → ⊥) → defined ≡ Err e
+
+-- the script that was read stands in the place of the one before, which is as it was where none was read
+abbrev pub Replaced : Result Content ReadError → Script → Script → Result (Unit {0}) ReadError → Type 0
+Replaced defined before after (Ok u) = defined ≡ Ok (content after)
+Replaced defined before after (Err e) = (after ≡ before) × ((e ≡ Memory → ⊥) → defined ≡ Err e)

@@ -4,3 +4,7 @@ mod lines;
 mod numbers;
 mod parts;
 mod reader;
+mod reading;
+
+pub use reading::parse;
+pub use reading::read;
