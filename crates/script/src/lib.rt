@@ -1,4 +1,5 @@
 // Packing-line scripts: what a script is, what its text is, and how a text is read.
+mod laws;
 mod rules;
 mod scripts;
 

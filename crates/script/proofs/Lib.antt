@@ -1,0 +1,4 @@
+pub mod Parting
+pub mod Numbers
+pub mod Letters
+pub mod Worked
