@@ -1,0 +1,182 @@
+-- Lines: what the line of each kind is where it is read, and that it is read where it is that.
+use mathlib.Core.Bool.{Bool, true, false, cond, _&&_}
+use mathlib.Core.List.{List, [], _∷_}
+use mathlib.Core.Path.{_≡_, refl, sym, ap, subst, _∙_}
+use Prim.Native.Nat.{ℕ, zero, suc, _≤_, _<_}
+use native.Mathlib.Omega.{arith}
+use lib.Chars.{codes}
+use lib.Dec.{eqb, leb, ltb}
+use lib.ListN.{length}
+use Rattle.std.proofs.shelf.Equals.{sameBytes-decides}
+use Rattle.std.proofs.shelf.Tests.{and-parts, and-from, eqb-true, ltb-true, lt-ltb}
+use Rattle.std.proofs.shelf.Ways.{tells}
+use Rattle.std.specs.Written.{decimal}
+use Rattle.std.specs.declared.result.Result.{Result}
+use Rattle.std.specs.declared.result.Result.the-variants.{Ok, Err}
+use Rattle.std.specs.shelf.Text.{sameBytes}
+use Rattle.script.specs.Contents.{RuleContent}
+use Rattle.script.specs.Fields.{field, numberIn, stateIn, marksIn, actsIn}
+use Rattle.script.specs.Reading.{due, Head, headOf, Start, startOf, above, goalOf, ruleOf}
+use Rattle.script.specs.Soundness.{within, every, isMark, soundRule}
+use Rattle.script.specs.Tables.{Row}
+use Rattle.script.specs.Texts.{goalRow, ruleRow, actsText}
+use Rattle.script.specs.declared.rules.ReadError.{ReadError}
+use Rattle.script.specs.declared.rules.ReadError.the-variants.{Shape, Sequence}
+use Rattle.script.proofs.Fields.{bind-is, from-ok, ask-is, number-is, number-decimal, state-is, state-decimal, marks-is, marks-themselves, actsIn-is, actsIn-text}
+
+-- the row is the first, and another stands behind it
+pub record First (rows : List Row) (row : Row) : Type 0 where
+  pub next : Row
+  pub more : List Row
+  pub is : rows ≡ row ∷ next ∷ more
+
+at-first : {rows : List Row} {row same : Row} → First rows row → row ≡ same → First rows same
+at-first {rows} f e = subst (First rows) e f
+
+-- so many fields of the row, from a place on
+abbrev fields : ℕ → ℕ → Row → Row
+fields k zero row = []
+fields k (suc n) row = field k row ∷ fields (suc k) n row
+
+fields-behind : (k n : ℕ) (f : List ℕ) (row : Row) → fields (suc k) n (f ∷ row) ≡ fields k n row
+fields-behind k zero f row = refl
+fields-behind k (suc n) f row = ap {B = Row} (λ z. field k row ∷ z) (fields-behind (suc k) n f row)
+
+fields-all : (row : Row) → row ≡ fields 0 (length row) row
+fields-all [] = refl
+fields-all (f ∷ row) = ap {B = Row} (λ z. f ∷ z) (fields-all row ∙ sym (fields-behind 0 (length row) f row))
+
+-- a row of so many fields with its word in front
+pub row-is : (word : List ℕ) (count : ℕ) (row : Row) → (sameBytes (field 0 row) word && eqb (length row) (suc count)) ≡ true → row ≡ word ∷ fields 1 count row
+row-is word count row h =
+    let (w, l) = and-parts (sameBytes (field 0 row) word) (eqb (length row) (suc count)) h in
+    let is = sameBytes-decides (field 0 row) word .0 w in
+    let many = eqb-true (length row) (suc count) l in
+    fields-all row ∙ (ap (λ z. fields 0 z row) many ∙ ap {B = Row} (λ z. z ∷ fields 1 count row) is)
+
+due-is : (n : ℕ) (word : List ℕ) (count : ℕ) (rows : List Row) (row : Row) → due n word (suc count) rows ≡ Ok row → First rows row × (row ≡ word ∷ fields 1 count row)
+unfolding due
+due-is n word count [] row e = let z : _≡_ {A = ℕ} 0 1 = cc in let w : ⊥ = omega arith in absurd w
+due-is n word count (r ∷ []) row e = let z : _≡_ {A = ℕ} 0 1 = cc in let w : ⊥ = omega arith in absurd w
+due-is n word count (r ∷ next ∷ more) row e =
+    let (fits, same) = ask-is (sameBytes (field 0 r) word && eqb (length r) (suc count)) (Shape n) (Ok r) row e in
+    let is : r ≡ row = cc in
+    (record { next = next; more = more; is = ap {B = List Row} (λ z. z ∷ next ∷ more) is }, row-is word count row (ap (λ z. sameBytes (field 0 z) word && eqb (length z) (suc count)) (sym is) ∙ fits))
+
+-- the row of a head
+abbrev pub headLine : Head → Row
+headLine h = codes "script" ∷ decimal 1 ∷ decimal (h .states) ∷ decimal (h .width) ∷ decimal (h .depth) ∷ []
+
+abbrev pub soundHead : Head → Bool
+soundHead h = within 1 64 (h .states) && within 1 255 (h .width) && within 0 255 (h .depth)
+
+pub head-is : (n : ℕ) (rows : List Row) (h : Head) → headOf n rows ≡ Ok h → First rows (headLine h) × (soundHead h ≡ true)
+unfolding headOf
+head-is n rows h e =
+    let (row, e₀, k₀) = bind-is (due n (codes "script") 5 rows) _ h e in
+    let (one, e₁, k₁) = bind-is (numberIn n 1 1 (field 1 row)) _ h k₀ in
+    let (states, e₂, k₂) = bind-is (numberIn n 1 64 (field 2 row)) _ h k₁ in
+    let (width, e₃, k₃) = bind-is (numberIn n 1 255 (field 3 row)) _ h k₂ in
+    let (depth, e₄, k₄) = bind-is (numberIn n 0 255 (field 4 row)) _ h k₃ in
+    let (first, is) = due-is n (codes "script") 4 rows row e₀ in
+    let (f₁, in₁) = number-is n 1 1 (field 1 row) one e₁ in
+    let (f₂, in₂) = number-is n 1 64 (field 2 row) states e₂ in
+    let (f₃, in₃) = number-is n 1 255 (field 3 row) width e₃ in
+    let (f₄, in₄) = number-is n 0 255 (field 4 row) depth e₄ in
+    let form : one ≡ 1 = grind (arith, tells) in
+    subst
+    (λ z. First rows (headLine z) × (soundHead z ≡ true))
+    (from-ok k₄)
+    (at-first first (cc), and-from (within 1 64 states && within 1 255 width) (within 0 255 depth) (and-from (within 1 64 states) (within 1 255 width) in₂ in₃) in₄)
+
+pub head-line : (n : ℕ) (h : Head) (next : Row) (more : List Row) → soundHead h ≡ true → headOf n (headLine h ∷ next ∷ more) ≡ Ok h
+unfolding headOf due
+head-line n h next more sound =
+    let (front, in₄) = and-parts (within 1 64 (h .states) && within 1 255 (h .width)) (within 0 255 (h .depth)) sound in
+    let (in₂, in₃) = and-parts (within 1 64 (h .states)) (within 1 255 (h .width)) front in
+    let e₁ = number-decimal n 1 1 1 (omega arith) refl in
+    let e₂ = number-decimal n 1 64 (h .states) (grind (arith, tells)) in₂ in
+    let e₃ = number-decimal n 1 255 (h .width) (grind (arith, tells)) in₃ in
+    let e₄ = number-decimal n 0 255 (h .depth) (grind (arith, tells)) in₄ in
+    rw (e₁, e₂, e₃, e₄)
+
+abbrev pub startLine : Start → Row
+startLine s = codes "start" ∷ decimal (s .state) ∷ s .marks ∷ []
+
+abbrev pub soundStartAt : ℕ → ℕ → Start → Bool
+soundStartAt states width s = ltb (s .state) states && every isMark (s .marks) && leb (length (s .marks)) width
+
+pub start-is : (n states width : ℕ) (rows : List Row) (s : Start) → startOf n states width rows ≡ Ok s → First rows (startLine s) × (soundStartAt states width s ≡ true)
+unfolding startOf
+start-is n states width rows s e =
+    let (row, e₀, k₀) = bind-is (due n (codes "start") 3 rows) _ s e in
+    let (state, e₁, k₁) = bind-is (stateIn n states (field 1 row)) _ s k₀ in
+    let (marks, e₂, k₂) = bind-is (marksIn n width (field 2 row)) _ s k₁ in
+    let (first, is) = due-is n (codes "start") 2 rows row e₀ in
+    let (f₁, in₁) = state-is n states (field 1 row) state e₁ in
+    let (f₂, in₂) = marks-is n width (field 2 row) marks e₂ in
+    subst
+    (λ z. First rows (startLine z) × (soundStartAt states width z ≡ true))
+    (from-ok k₂)
+    (at-first first (cc), grind (arith, tells))
+
+pub start-line :
+    (n states width : ℕ) (s : Start) (next : Row) (more : List Row) → states ≤ 64 → soundStartAt states width s ≡ true → startOf n states width (startLine s ∷ next ∷ more) ≡ Ok s
+unfolding startOf due
+start-line n states width s next more few sound =
+    let e₁ = state-decimal n states (s .state) (grind (arith, tells)) (grind (arith, tells)) in
+    let e₂ = marks-themselves n width (s .marks) (grind (arith, tells)) in
+    rw (e₁, e₂)
+
+pub goal-is :
+    (n states : ℕ) (done : List ℕ) (rows : List Row) (g : ℕ) → goalOf n states done rows ≡ Ok g →
+    First rows (goalRow g) × (ltb g states ≡ true) × (above done g ≡ true) × (length done < 8)
+unfolding goalOf
+goal-is n states done rows g e =
+    let (row, e₀, k₀) = bind-is (due n (codes "goal") 2 rows) _ g e in
+    let (v, e₁, k₁) = bind-is (stateIn n states (field 1 row)) _ g k₀ in
+    let (fits, k₂) = ask-is (above done v && ltb (length done) 8) (Sequence n) (Ok v) g k₁ in
+    let (first, is) = due-is n (codes "goal") 1 rows row e₀ in
+    let (f₁, in₁) = state-is n states (field 1 row) v e₁ in
+    let (up, few) = and-parts (above done v) (ltb (length done) 8) fits in
+    subst
+    (λ z. First rows (goalRow z) × (ltb z states ≡ true) × (above done z ≡ true) × (length done < 8))
+    (from-ok k₂)
+    (at-first first (cc), in₁, up, ltb-true (length done) 8 few)
+
+pub goal-line :
+    (n states : ℕ) (done : List ℕ) (g : ℕ) (next : Row) (more : List Row) → states ≤ 64 → ltb g states ≡ true → above done g ≡ true → length done < 8 →
+    goalOf n states done (goalRow g ∷ next ∷ more) ≡ Ok g
+unfolding goalOf due
+goal-line n states done g next more few there up room =
+    let e₁ = state-decimal n states g (grind (arith, tells)) there in
+    rw (e₁, up, lt-ltb (length done) 8 room)
+
+pub rule-is :
+    (n states count : ℕ) (rows : List Row) (r : RuleContent) → ruleOf n states count rows ≡ Ok r →
+    First rows (ruleRow r) × (soundRule states r ≡ true) × (count < 64)
+unfolding ruleOf
+rule-is n states count rows r e =
+    let (row, e₀, k₀) = bind-is (due n (codes "rule") 4 rows) _ r e in
+    let (from, e₁, k₁) = bind-is (stateIn n states (field 1 row)) _ r k₀ in
+    let (to, e₂, k₂) = bind-is (stateIn n states (field 2 row)) _ r k₁ in
+    let (all, e₃, k₃) = bind-is (actsIn n (field 3 row)) _ r k₂ in
+    let (room, k₄) = ask-is (ltb count 64) (Sequence n) _ r k₃ in
+    let (first, is) = due-is n (codes "rule") 3 rows row e₀ in
+    let (f₁, in₁) = state-is n states (field 1 row) from e₁ in
+    let (f₂, in₂) = state-is n states (field 2 row) to e₂ in
+    let (f₃, in₃, in₄) = actsIn-is n (field 3 row) all e₃ in
+    subst
+    (λ z. First rows (ruleRow z) × (soundRule states z ≡ true) × (count < 64))
+    (from-ok k₄)
+    (at-first first (cc), grind (arith, tells), ltb-true count 64 room)
+
+pub rule-line :
+    (n states count : ℕ) (r : RuleContent) (next : Row) (more : List Row) → states ≤ 64 → soundRule states r ≡ true → count < 64 →
+    ruleOf n states count (ruleRow r ∷ next ∷ more) ≡ Ok r
+unfolding ruleOf due
+rule-line n states count r next more few sound room =
+    let e₁ = state-decimal n states (r .from) (grind (arith, tells)) (grind (arith, tells)) in
+    let e₂ = state-decimal n states (r .to) (grind (arith, tells)) (grind (arith, tells)) in
+    let e₃ = actsIn-text n (r .acts) (grind (arith, tells)) (grind (arith, tells)) in
+    rw (e₁, e₂, e₃, lt-ltb count 64 room)
