@@ -3,4 +3,10 @@ pub mod Numbers
 pub mod Letters
 pub mod Fields
 pub mod Lines
+pub mod Added
+pub mod GoalLines
+pub mod RuleLines
+pub mod Kept
+pub mod Rows
+pub mod Laws
 pub mod Worked

@@ -30,6 +30,10 @@ pub record First (rows : List Row) (row : Row) : Type 0 where
   pub more : List Row
   pub is : rows ≡ row ∷ next ∷ more
 
+pub first : (row : Row) (rest : List Row) → 0 < length rest → First (row ∷ rest) row
+first row [] some = let w : ⊥ = omega arith in absurd w
+first row (next ∷ more) some = record { next = next; more = more; is = refl }
+
 at-first : {rows : List Row} {row same : Row} → First rows row → row ≡ same → First rows same
 at-first {rows} f e = subst (First rows) e f
 
@@ -87,18 +91,16 @@ head-is n rows h e =
     subst
     (λ z. First rows (headLine z) × (soundHead z ≡ true))
     (from-ok k₄)
-    (at-first first (cc), and-from (within 1 64 states && within 1 255 width) (within 0 255 depth) (and-from (within 1 64 states) (within 1 255 width) in₂ in₃) in₄)
+    (at-first first (cc), grind (arith, tells))
 
-pub head-line : (n : ℕ) (h : Head) (next : Row) (more : List Row) → soundHead h ≡ true → headOf n (headLine h ∷ next ∷ more) ≡ Ok h
+pub head-line : (n : ℕ) (rows : List Row) (h : Head) → First rows (headLine h) → soundHead h ≡ true → headOf n rows ≡ Ok h
 unfolding headOf due
-head-line n h next more sound =
-    let (front, in₄) = and-parts (within 1 64 (h .states) && within 1 255 (h .width)) (within 0 255 (h .depth)) sound in
-    let (in₂, in₃) = and-parts (within 1 64 (h .states)) (within 1 255 (h .width)) front in
+head-line n rows h first sound =
     let e₁ = number-decimal n 1 1 1 (omega arith) refl in
-    let e₂ = number-decimal n 1 64 (h .states) (grind (arith, tells)) in₂ in
-    let e₃ = number-decimal n 1 255 (h .width) (grind (arith, tells)) in₃ in
-    let e₄ = number-decimal n 0 255 (h .depth) (grind (arith, tells)) in₄ in
-    rw (e₁, e₂, e₃, e₄)
+    let e₂ = number-decimal n 1 64 (h .states) (grind (arith, tells)) (grind (arith, tells)) in
+    let e₃ = number-decimal n 1 255 (h .width) (grind (arith, tells)) (grind (arith, tells)) in
+    let e₄ = number-decimal n 0 255 (h .depth) (grind (arith, tells)) (grind (arith, tells)) in
+    rw (first .is, e₁, e₂, e₃, e₄)
 
 abbrev pub startLine : Start → Row
 startLine s = codes "start" ∷ decimal (s .state) ∷ s .marks ∷ []
@@ -121,12 +123,13 @@ start-is n states width rows s e =
     (at-first first (cc), grind (arith, tells))
 
 pub start-line :
-    (n states width : ℕ) (s : Start) (next : Row) (more : List Row) → states ≤ 64 → soundStartAt states width s ≡ true → startOf n states width (startLine s ∷ next ∷ more) ≡ Ok s
+    (n states width : ℕ) (rows : List Row) (s : Start) → First rows (startLine s) → states ≤ 64 → soundStartAt states width s ≡ true →
+    startOf n states width rows ≡ Ok s
 unfolding startOf due
-start-line n states width s next more few sound =
+start-line n states width rows s first few sound =
     let e₁ = state-decimal n states (s .state) (grind (arith, tells)) (grind (arith, tells)) in
     let e₂ = marks-themselves n width (s .marks) (grind (arith, tells)) in
-    rw (e₁, e₂)
+    rw (first .is, e₁, e₂)
 
 pub goal-is :
     (n states : ℕ) (done : List ℕ) (rows : List Row) (g : ℕ) → goalOf n states done rows ≡ Ok g →
@@ -145,12 +148,12 @@ goal-is n states done rows g e =
     (at-first first (cc), in₁, up, ltb-true (length done) 8 few)
 
 pub goal-line :
-    (n states : ℕ) (done : List ℕ) (g : ℕ) (next : Row) (more : List Row) → states ≤ 64 → ltb g states ≡ true → above done g ≡ true → length done < 8 →
-    goalOf n states done (goalRow g ∷ next ∷ more) ≡ Ok g
+    (n states : ℕ) (done : List ℕ) (rows : List Row) (g : ℕ) → First rows (goalRow g) → states ≤ 64 → ltb g states ≡ true → above done g ≡ true → length done < 8 →
+    goalOf n states done rows ≡ Ok g
 unfolding goalOf due
-goal-line n states done g next more few there up room =
+goal-line n states done rows g first few there up room =
     let e₁ = state-decimal n states g (grind (arith, tells)) there in
-    rw (e₁, up, lt-ltb (length done) 8 room)
+    rw (first .is, e₁, up, lt-ltb (length done) 8 room)
 
 pub rule-is :
     (n states count : ℕ) (rows : List Row) (r : RuleContent) → ruleOf n states count rows ≡ Ok r →
@@ -172,11 +175,11 @@ rule-is n states count rows r e =
     (at-first first (cc), grind (arith, tells), ltb-true count 64 room)
 
 pub rule-line :
-    (n states count : ℕ) (r : RuleContent) (next : Row) (more : List Row) → states ≤ 64 → soundRule states r ≡ true → count < 64 →
-    ruleOf n states count (ruleRow r ∷ next ∷ more) ≡ Ok r
+    (n states count : ℕ) (rows : List Row) (r : RuleContent) → First rows (ruleRow r) → states ≤ 64 → soundRule states r ≡ true → count < 64 →
+    ruleOf n states count rows ≡ Ok r
 unfolding ruleOf due
-rule-line n states count r next more few sound room =
+rule-line n states count rows r first few sound room =
     let e₁ = state-decimal n states (r .from) (grind (arith, tells)) (grind (arith, tells)) in
     let e₂ = state-decimal n states (r .to) (grind (arith, tells)) (grind (arith, tells)) in
     let e₃ = actsIn-text n (r .acts) (grind (arith, tells)) (grind (arith, tells)) in
-    rw (e₁, e₂, e₃, lt-ltb count 64 room)
+    rw (first .is, e₁, e₂, e₃, lt-ltb count 64 room)

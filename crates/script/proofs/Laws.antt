@@ -1,0 +1,2 @@
+-- Reading and writing undo one another.
+use mathlib.Core.Path.{refl}
