@@ -1,18 +1,14 @@
 -- Fields: what each kind of field is where it is read, and that it is read where it is that.
-use mathlib.Core.Bool.{Bool, true, false, cond, _&&_}
-use mathlib.Core.List.{List, [], _∷_}
-use mathlib.Core.Path.{_≡_, refl, sym, ap, subst, _∙_}
+use mathlib.Core.Bool.{Bool, true, _&&_}
+use mathlib.Core.List.{List}
+use mathlib.Core.Path.{_≡_, sym, ap, subst, _∙_}
 use Prim.Native.Nat.{ℕ, _<_}
-use native.Mathlib.Omega.{arith}
 use lib.Dec.{leb, ltb}
 use lib.ListN.{length}
-use Rattle.std.proofs.shelf.Tests.{and-parts, and-from}
 use Rattle.std.specs.Options.{okOr}
 use Rattle.std.specs.Written.{decimal}
-use Rattle.std.specs.declared.option.Option.{Option}
-use Rattle.std.specs.declared.option.Option.the-variants.{None, Some}
 use Rattle.std.specs.declared.result.Result.{Result}
-use Rattle.std.specs.declared.result.Result.the-variants.{Ok, Err}
+use Rattle.std.specs.declared.result.Result.the-variants.{Ok}
 use Rattle.script.specs.Fields.{_>>=_, _>>_, ask, numeral, numeralIn, numberIn, stateIn, marksIn, acts, actsIn}
 use Rattle.script.specs.Soundness.{within, every, isMark}
 use Rattle.script.specs.Texts.{actsText}
@@ -20,23 +16,8 @@ use Rattle.script.specs.declared.rules.Act.{Act}
 use Rattle.script.specs.declared.rules.ReadError.{ReadError}
 use Rattle.script.specs.declared.rules.ReadError.the-variants.{Range, Letters}
 use Rattle.script.proofs.Letters.{marked, acts-is, acts-text}
+use Rattle.script.proofs.Outcomes.{bind-is, ask-is, okOr-is}
 use Rattle.script.proofs.Numbers.{numeral-is, numeral-decimal}
-
--- a reading in two steps succeeds just where both do
-pub bind-is : {X Y E : Type 0} (m : Result X E) (k : X → Result Y E) (y : Y) → (m >>= k) ≡ Ok y → (x : X) × (m ≡ Ok x) × (k x ≡ Ok y)
-bind-is (Ok x) k y e = (x, refl, e)
-bind-is (Err d) k y e = let z : _≡_ {A = ℕ} 0 1 = cc in let w : ⊥ = omega arith in absurd w
-
-pub ask-is : {Y E : Type 0} (b : Bool) (d : E) (r : Result Y E) (y : Y) → (ask b d >> r) ≡ Ok y → (b ≡ true) × (r ≡ Ok y)
-ask-is true d r y e = (refl, e)
-ask-is false d r y e = let z : _≡_ {A = ℕ} 0 1 = cc in let w : ⊥ = omega arith in absurd w
-
-pub from-ok : {X E : Type 0} {x y : X} → _≡_ {A = Result X E} (Ok x) (Ok y) → x ≡ y
-from-ok e = cc
-
-okOr-is : {X E : Type 0} (o : Option X) (d : E) (x : X) → okOr o d ≡ Ok x → o ≡ Some x
-okOr-is None d x e = let z : _≡_ {A = ℕ} 0 1 = cc in let w : ⊥ = omega arith in absurd w
-okOr-is (Some y) d x e = cc
 
 module _ (n : ℕ) (p : ℕ → Bool) where
   -- a number that is asked for more

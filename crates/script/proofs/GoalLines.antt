@@ -1,7 +1,7 @@
 -- Goals: the lines that are read as goals are theirs, and the lines of rising goals are read.
-use mathlib.Core.Bool.{Bool, true, false, cond, _&&_}
+use mathlib.Core.Bool.{Bool, true, false, cond}
 use mathlib.Core.List.{List, [], _∷_, _++_, map, append-assoc, append-nil}
-use mathlib.Core.Path.{_≡_, refl, sym, ap, subst, _∙_}
+use mathlib.Core.Path.{_≡_, refl, ap, subst, _∙_}
 use Prim.Native.Nat.{ℕ, _+_, _≤_, _<_}
 use native.Mathlib.Omega.{arith}
 use lib.Chars.{codes}
@@ -10,7 +10,7 @@ use lib.ListN.{length}
 use Rattle.std.proofs.shelf.Lists.{length-append, length-push}
 use Rattle.std.proofs.shelf.Tests.{and-parts, and-from}
 use Rattle.std.specs.declared.result.Result.{Result}
-use Rattle.std.specs.declared.result.Result.the-variants.{Ok, Err}
+use Rattle.std.specs.declared.result.Result.the-variants.{Ok}
 use Rattle.std.specs.shelf.Text.{sameBytes}
 use Rattle.script.specs.Fields.{_>>=_, field}
 use Rattle.script.specs.Reading.{above, goalOf, Goals, goalsOn}
@@ -19,8 +19,8 @@ use Rattle.script.specs.Tables.{Row}
 use Rattle.script.specs.Texts.{goalRow}
 use Rattle.script.specs.declared.rules.ReadError.{ReadError}
 use Rattle.script.proofs.Added.{Added, added-none, added-more}
-use Rattle.script.proofs.Fields.{bind-is, from-ok}
-use Rattle.script.proofs.Lines.{First, first, goal-is, goal-line}
+use Rattle.script.proofs.Outcomes.{bind-is, from-ok}
+use Rattle.script.proofs.Lines.{first, goal-is, goal-line}
 
 rising-push : (done : List ℕ) (g : ℕ) → rising done ≡ true → above done g ≡ true → rising (done ++ g ∷ []) ≡ true
 rising-push [] g up over = refl

@@ -1,23 +1,21 @@
 -- Reading and writing undo one another.
-use mathlib.Core.Bool.{Bool, true, _&&_}
+use mathlib.Core.Bool.{true}
 use mathlib.Core.List.{List, [], _∷_, _++_, map, append-assoc}
 use mathlib.Core.Path.{_≡_, refl, sym, ap, subst, _∙_}
-use Prim.Native.Nat.{ℕ, _+_, _≤_, _<_}
+use Prim.Native.Nat.{ℕ, _<_}
 use native.Mathlib.Omega.{arith}
 use lib.Dec.{ltb}
 use lib.ListN.{length, drop}
 use Rattle.std.proofs.shelf.Lists.{length-append, drop-drop}
-use Rattle.std.specs.declared.result.Result.{Result}
-use Rattle.std.specs.declared.result.Result.the-variants.{Ok, Err}
+use Rattle.std.specs.declared.result.Result.the-variants.{Ok}
 use Rattle.script.specs.Claims.{Accepted-is-text, Text-is-accepted}
 use Rattle.script.specs.Contents.{Content, RuleContent}
 use Rattle.script.specs.Reading.{Head, headOf, Start, startOf, Goals, goalsOn, rulesOn, readRows, reading}
 use Rattle.script.specs.Soundness.{within, every, soundRule}
 use Rattle.script.specs.Tables.{Row, table}
 use Rattle.script.specs.Texts.{headRow, startRow, goalRow, ruleRow, rows, text}
-use Rattle.script.specs.declared.rules.ReadError.{ReadError}
 use Rattle.script.specs.declared.rules.ReadError.the-variants.{Size}
-use Rattle.script.proofs.Fields.{bind-is, ask-is, from-ok}
+use Rattle.script.proofs.Outcomes.{bind-is, ask-is, from-ok}
 use Rattle.script.proofs.GoalLines.{GoalLines, goals-are, goals-read}
 use Rattle.script.proofs.Kept.{headIn, startIn, Kept, kept, sound-from}
 use Rattle.script.proofs.Lines.{First, first, headLine, soundHead, startLine, soundStartAt, head-is, head-line, start-is, start-line}

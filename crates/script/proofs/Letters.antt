@@ -1,10 +1,9 @@
 -- Acts: a field is read as a list of acts just where it is their text and each has a mark.
-use mathlib.Core.Bool.{Bool, true, false, cond, _&&_}
+use mathlib.Core.Bool.{Bool, true, false, cond}
 use mathlib.Core.List.{List, [], _∷_, _++_}
 use mathlib.Core.Path.{_≡_, refl, sym, ap, _∙_}
-use Prim.Native.Nat.{ℕ, _*_, _<_}
+use Prim.Native.Nat.{ℕ, _*_}
 use native.Mathlib.Omega.{arith}
-use lib.Dec.{eqb}
 use lib.ListN.{length}
 use Rattle.std.proofs.shelf.Elements.{all-append}
 use Rattle.std.proofs.shelf.Tests.{and-parts, and-from}
@@ -17,6 +16,8 @@ use Rattle.script.specs.Soundness.{every, isMark, markOf}
 use Rattle.script.specs.Texts.{actText, actsText}
 use Rattle.script.specs.declared.rules.Act.{Act}
 use Rattle.script.specs.declared.rules.Act.the-variants.{Push, Inject, Pop, Eject}
+use Rattle.script.proofs.Outcomes.{not-some}
+use Rattle.script.proofs.Parting.{Above}
 
 -- the act has a mark
 abbrev pub marked : Act → Bool
@@ -34,17 +35,17 @@ actOf-is letter m a e = go (isMark m) refl e
   where
     go : (b : Bool) → isMark m ≡ b → cond b (actBy letter m) None ≡ Some a → (letter ∷ m ∷ [] ≡ actText a) × (marked a ≡ true)
     go true h k = let p = actBy-is letter m a k in (p .0, ap isMark (p .1) ∙ h)
-    go false h k = let z : _≡_ {A = ℕ} 0 1 = cc in let w : ⊥ = omega arith in absurd w
+    go false h k = not-some a k
 
-before-is : (o : Option Act) (r : Option (List Act)) (as′ : List Act) → before o r ≡ Some as′ → (a : Act) × (rest : List Act) × (o ≡ Some a) × (r ≡ Some rest) × (as′ ≡ a ∷ rest)
-before-is None r as′ e = let z : _≡_ {A = ℕ} 0 1 = cc in let w : ⊥ = omega arith in absurd w
-before-is (Some a) None as′ e = let z : _≡_ {A = ℕ} 0 1 = cc in let w : ⊥ = omega arith in absurd w
-before-is (Some a) (Some rest) as′ e = (a, rest, refl, refl, cc)
+before-is : (o : Option Act) (r : Option (List Act)) (all : List Act) → before o r ≡ Some all → (a : Act) × (rest : List Act) × (o ≡ Some a) × (r ≡ Some rest) × (all ≡ a ∷ rest)
+before-is None r all e = not-some all e
+before-is (Some a) None all e = not-some all e
+before-is (Some a) (Some rest) all e = (a, rest, refl, refl, cc)
 
 -- what is read as acts is their text
 pub acts-is : (f : List ℕ) (all : List Act) → acts f ≡ Some all → (f ≡ actsText all) × (every marked all ≡ true)
 acts-is [] all e = let none : all ≡ [] = cc in (ap actsText (sym none), ap (every marked) none)
-acts-is (letter ∷ []) all e = let z : _≡_ {A = ℕ} 0 1 = cc in let w : ⊥ = omega arith in absurd w
+acts-is (letter ∷ []) all e = not-some all e
 acts-is (letter ∷ m ∷ f) all e =
     let (a, rest, ea, er, is) = before-is (actOf letter m) (acts f) all e in
     let p = actOf-is letter m a ea in
@@ -65,18 +66,18 @@ acts-text (a ∷ rest) h =
     one (Eject m) k f = ap (λ b. before (cond b (Some (Eject m)) None) (acts f)) k
 
 -- no mark is a separator
-pub marks-plain : (ms : List ℕ) → every isMark ms ≡ true → All (λ b. 10 < b) ms
+pub marks-plain : (ms : List ℕ) → every isMark ms ≡ true → All Above ms
 marks-plain [] h = tt
 marks-plain (m ∷ ms) h = let p = and-parts (isMark m) (every isMark ms) h in (grind (arith, tells), marks-plain ms (p .1))
 
 -- no letter of an act is one
-pub acts-plain : (all : List Act) → every marked all ≡ true → All (λ b. 10 < b) (actsText all)
+pub acts-plain : (all : List Act) → every marked all ≡ true → All Above (actsText all)
 acts-plain [] h = tt
 acts-plain (a ∷ rest) h =
     let p = and-parts (marked a) (every marked rest) h in
-    all-append (λ b. 10 < b) (actText a) (actsText rest) (one a (p .0)) (acts-plain rest (p .1))
+    all-append Above (actText a) (actsText rest) (one a (p .0)) (acts-plain rest (p .1))
   where
-    one : (x : Act) → marked x ≡ true → All (λ b. 10 < b) (actText x)
+    one : (x : Act) → marked x ≡ true → All Above (actText x)
     one (Push m) k = (omega arith, (grind (arith, tells), tt))
     one (Inject m) k = (omega arith, (grind (arith, tells), tt))
     one (Pop m) k = (omega arith, (grind (arith, tells), tt))

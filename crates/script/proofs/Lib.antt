@@ -1,3 +1,4 @@
+pub mod Outcomes
 pub mod Parting
 pub mod Numbers
 pub mod Letters

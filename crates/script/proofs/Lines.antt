@@ -1,5 +1,5 @@
 -- Lines: what the line of each kind is where it is read, and that it is read where it is that.
-use mathlib.Core.Bool.{Bool, true, false, cond, _&&_}
+use mathlib.Core.Bool.{Bool, true, _&&_}
 use mathlib.Core.List.{List, [], _∷_}
 use mathlib.Core.Path.{_≡_, refl, sym, ap, subst, _∙_}
 use Prim.Native.Nat.{ℕ, zero, suc, _≤_, _<_}
@@ -8,21 +8,20 @@ use lib.Chars.{codes}
 use lib.Dec.{eqb, leb, ltb}
 use lib.ListN.{length}
 use Rattle.std.proofs.shelf.Equals.{sameBytes-decides}
-use Rattle.std.proofs.shelf.Tests.{and-parts, and-from, eqb-true, ltb-true, lt-ltb}
+use Rattle.std.proofs.shelf.Tests.{and-parts, eqb-true, ltb-true, lt-ltb}
 use Rattle.std.proofs.shelf.Ways.{tells}
 use Rattle.std.specs.Written.{decimal}
-use Rattle.std.specs.declared.result.Result.{Result}
-use Rattle.std.specs.declared.result.Result.the-variants.{Ok, Err}
+use Rattle.std.specs.declared.result.Result.the-variants.{Ok}
 use Rattle.std.specs.shelf.Text.{sameBytes}
 use Rattle.script.specs.Contents.{RuleContent}
 use Rattle.script.specs.Fields.{field, numberIn, stateIn, marksIn, actsIn}
 use Rattle.script.specs.Reading.{due, Head, headOf, Start, startOf, above, goalOf, ruleOf}
 use Rattle.script.specs.Soundness.{within, every, isMark, soundRule}
 use Rattle.script.specs.Tables.{Row}
-use Rattle.script.specs.Texts.{goalRow, ruleRow, actsText}
-use Rattle.script.specs.declared.rules.ReadError.{ReadError}
+use Rattle.script.specs.Texts.{goalRow, ruleRow}
 use Rattle.script.specs.declared.rules.ReadError.the-variants.{Shape, Sequence}
-use Rattle.script.proofs.Fields.{bind-is, from-ok, ask-is, number-is, number-decimal, state-is, state-decimal, marks-is, marks-themselves, actsIn-is, actsIn-text}
+use Rattle.script.proofs.Outcomes.{bind-is, ask-is, from-ok, not-ok}
+use Rattle.script.proofs.Fields.{number-is, number-decimal, state-is, state-decimal, marks-is, marks-themselves, actsIn-is, actsIn-text}
 
 -- the row is the first, and another stands behind it
 pub record First (rows : List Row) (row : Row) : Type 0 where
@@ -60,8 +59,8 @@ row-is word count row h =
 
 due-is : (n : ℕ) (word : List ℕ) (count : ℕ) (rows : List Row) (row : Row) → due n word (suc count) rows ≡ Ok row → First rows row × (row ≡ word ∷ fields 1 count row)
 unfolding due
-due-is n word count [] row e = let z : _≡_ {A = ℕ} 0 1 = cc in let w : ⊥ = omega arith in absurd w
-due-is n word count (r ∷ []) row e = let z : _≡_ {A = ℕ} 0 1 = cc in let w : ⊥ = omega arith in absurd w
+due-is n word count [] row e = not-ok (Shape n) row e
+due-is n word count (r ∷ []) row e = not-ok (Shape n) row e
 due-is n word count (r ∷ next ∷ more) row e =
     let (fits, same) = ask-is (sameBytes (field 0 r) word && eqb (length r) (suc count)) (Shape n) (Ok r) row e in
     let is : r ≡ row = cc in

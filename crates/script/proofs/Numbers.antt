@@ -1,21 +1,21 @@
 -- Numbers: a field is read as a number below 1000 just where it is that number's decimal.
-use mathlib.Core.Bool.{Bool, true, false, not, cond, _&&_}
+use mathlib.Core.Bool.{not, _&&_}
 use mathlib.Core.List.{List, [], _∷_, _++_}
 use mathlib.Core.Logic.{_⊎_, inl, inr}
-use mathlib.Core.Path.{_≡_, refl, sym, ap, _∙_}
-use Prim.Native.Nat.{ℕ, _+_, _-_, _*_, _/_, _%_, _^_, _≤_, _<_}
+use mathlib.Core.Path.{_≡_, sym, ap, _∙_}
+use Prim.Native.Nat.{ℕ, _+_, _-_, _*_, _/_, _%_, _≤_, _<_}
 use native.Mathlib.Omega.{arith}
-use lib.Dec.{eqb, leb}
-use lib.ListN.{length}
+use lib.Dec.{eqb}
 use Rattle.std.proofs.shelf.Decimals.{decimal-digit, decimal-step, decimal-by-steps}
 use Rattle.std.proofs.shelf.Elements.{all-append}
 use Rattle.std.proofs.shelf.Tests.{cases-lt}
 use Rattle.std.proofs.shelf.Ways.{tells}
 use Rattle.std.specs.Written.{decimal}
-use Rattle.std.specs.declared.option.Option.{Option}
-use Rattle.std.specs.declared.option.Option.the-variants.{None, Some}
+use Rattle.std.specs.declared.option.Option.the-variants.{Some}
 use Rattle.std.specs.shelf.Lists.{All}
 use Rattle.script.specs.Fields.{numeral, isDigit}
+use Rattle.script.proofs.Outcomes.{not-some, cond-some}
+use Rattle.script.proofs.Parting.{Above}
 
 -- one digit more, by its byte
 decimal-more : (n b : ℕ) → 0 < n → n < 100 → 48 ≤ b → b ≤ 57 → decimal (10 * n + (b - 48)) ≡ decimal n ++ b ∷ []
@@ -41,13 +41,9 @@ decimal-three a b c some ha lb hb low high =
     let e : 100 * (a - 48) + 10 * (b - 48) + (c - 48) ≡ 10 * n + (c - 48) = omega arith in
     ap decimal e ∙ (decimal-more n c (omega arith) (omega arith) low high ∙ ap (λ z. z ++ c ∷ []) (decimal-two a b some ha lb hb))
 
-cond-some : {X : Type 0} (b : Bool) (x y : X) → cond b (Some x) None ≡ Some y → (b ≡ true) × (x ≡ y)
-cond-some true x y e = (refl, cc)
-cond-some false x y e = let z : _≡_ {A = ℕ} 0 1 = cc in let w : ⊥ = omega arith in absurd w
-
 -- what is read as a number is its decimal
 pub numeral-is : (f : List ℕ) (v : ℕ) → numeral f ≡ Some v → (f ≡ decimal v) × (v < 1000)
-numeral-is [] v e = let z : _≡_ {A = ℕ} 0 1 = cc in let w : ⊥ = omega arith in absurd w
+numeral-is [] v e = not-some v e
 numeral-is (a ∷ []) v e =
     let p = cond-some (isDigit a) (a - 48) v e in
     let low : 48 ≤ a = grind (arith, tells) in
@@ -69,7 +65,7 @@ numeral-is (a ∷ b ∷ c ∷ []) v e =
     let lc : 48 ≤ c = grind (arith, tells) in
     let hc : c ≤ 57 = grind (arith, tells) in
     (sym (decimal-three a b c la ha lb hb lc hc) ∙ ap decimal (p .1), omega (arith, p .1))
-numeral-is (a ∷ b ∷ c ∷ d ∷ more) v e = let z : _≡_ {A = ℕ} 0 1 = cc in let w : ⊥ = omega arith in absurd w
+numeral-is (a ∷ b ∷ c ∷ d ∷ more) v e = not-some v e
 
 -- the decimal of a number below 1000 is read as that number
 pub numeral-decimal : (v : ℕ) → v < 1000 → numeral (decimal v) ≡ Some v
@@ -97,6 +93,6 @@ numeral-decimal v h = go (cases-lt v 10) (cases-lt v 100)
         three (48 + v / 100) (48 + v / 10 % 10) (48 + v % 10) (omega arith) (omega arith) (omega arith) (omega arith) (omega arith) (omega arith) (omega arith)
 
 -- no digit is a separator
-pub decimal-plain : (v : ℕ) → v < 1000 → All (λ b. 10 < b) (decimal v)
+pub decimal-plain : (v : ℕ) → v < 1000 → All Above (decimal v)
 decimal-plain v h =
-    decimal-by-steps (λ _ ds. All (λ b. 10 < b) ds) (λ n small. (omega arith, tt)) (λ n ds large plain. all-append (λ b. 10 < b) ds ((48 + n % 10) ∷ []) plain (omega arith, tt)) v (omega arith)
+    decimal-by-steps (λ _ ds. All Above ds) (λ n small. (omega arith, tt)) (λ n ds large plain. all-append Above ds ((48 + n % 10) ∷ []) plain (omega arith, tt)) v (omega arith)

@@ -1,8 +1,7 @@
 -- A text and its table: parting at a separator and joining undo one another, where no part holds the separator.
-use mathlib.Core.Bool.{Bool, true, false, cond}
 use mathlib.Core.List.{List, [], _∷_, _++_, map, append-assoc}
 use mathlib.Core.Path.{_≡_, refl, sym, ap, _∙_}
-use Prim.Native.Nat.{ℕ, _+_, _≤_, _<_}
+use Prim.Native.Nat.{ℕ, _≤_, _<_}
 use native.Mathlib.Omega.{arith}
 use lib.Dec.{eqb}
 use lib.ListN.{length}
@@ -86,13 +85,14 @@ lines-join (r ∷ q ∷ rs) = append-assoc (join 9 r) (10 ∷ []) (joined line (
 pub text-from-table : (t : List ℕ) (rs : List Row) → table t ≡ rs ++ end ∷ [] → t ≡ joined line rs
 text-from-table t rs e = sym (join-table t) ∙ (ap (λ z. join 10 (map (join 9) z)) e ∙ sym (lines-join rs))
 
--- fields whose bytes are all above the separators, and at least one of them
+-- the byte is above both separators
+abbrev pub Above : ℕ → Type 0
+Above b = 10 < b
+
+-- one field or more, with no separator in them
 pub record Plain (row : Row) : Type 0 where
   pub some : 0 < length row
-  pub bytes : All (All (λ b. 10 < b)) row
-
-abbrev Above : ℕ → Type 0
-Above b = 10 < b
+  pub bytes : All (All Above) row
 
 free : (s : ℕ) → s ≤ 10 → (row : Row) → Plain row → All (Free s) row
 free s h row p = all-weaker (All Above) (Free s) (all-weaker Above (λ b. b ≡ s → ⊥) (λ b above. omega arith)) row (p .bytes)

@@ -1,8 +1,8 @@
 -- The rows of a sound script: they are plain, so that the text has them for its table, and the text is not too long.
-use mathlib.Core.Bool.{Bool, true, false, cond, _&&_}
+use mathlib.Core.Bool.{Bool, true}
 use mathlib.Core.List.{List, [], _∷_, _++_, map}
-use mathlib.Core.Path.{_≡_, refl, sym, ap, subst, _∙_}
-use Prim.Native.Nat.{ℕ, _+_, _*_, _^_, _≤_, _<_}
+use mathlib.Core.Path.{_≡_}
+use Prim.Native.Nat.{ℕ, _*_, _≤_, _<_}
 use native.Mathlib.Omega.{arith}
 use lib.Dec.{leb, ltb}
 use lib.ListN.{length}
@@ -15,24 +15,24 @@ use Rattle.std.specs.Joined.{joined}
 use Rattle.std.specs.Written.{decimal}
 use Rattle.std.specs.shelf.Lists.{All}
 use Rattle.script.specs.Contents.{Content, RuleContent}
-use Rattle.script.specs.Soundness.{within, every, soundRule, sound}
+use Rattle.script.specs.Soundness.{within, every, soundRule}
 use Rattle.script.specs.Tables.{Row, table, line}
-use Rattle.script.specs.Texts.{headRow, startRow, goalRow, ruleRow, rows, actsText, text}
+use Rattle.script.specs.Texts.{headRow, startRow, goalRow, ruleRow, rows, text}
 use Rattle.script.proofs.Kept.{Kept}
 use Rattle.script.proofs.Letters.{acts-plain, marks-plain, length-acts}
 use Rattle.script.proofs.Numbers.{decimal-plain}
-use Rattle.script.proofs.Parting.{Plain, end, table-lines}
+use Rattle.script.proofs.Parting.{Above, Plain, end, table-lines}
 
 -- at most three bytes, and no separator
-pub record Small (f : List ℕ) : Type 0 where
+record Small (f : List ℕ) : Type 0 where
   pub short : length f ≤ 3
-  pub plain : All (λ b. 10 < b) f
+  pub plain : All Above f
 
 small : (v : ℕ) → v < 1000 → Small (decimal v)
 small v h = record { short = length-decimal-le 3 v (omega arith) (omega arith) (omega arith); plain = decimal-plain v h }
 
 -- a row that is plain, with a line of at most so many bytes
-pub record Fits (most : ℕ) (r : Row) : Type 0 where
+record Fits (most : ℕ) (r : Row) : Type 0 where
   pub plain : Plain r
   pub short : length (line r) ≤ most
 

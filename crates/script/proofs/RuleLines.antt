@@ -1,15 +1,14 @@
 -- Rules: the lines that are read as rules are theirs and end the text, and the lines of rules are read.
-use mathlib.Core.Bool.{Bool, true, false, cond, _&&_}
+use mathlib.Core.Bool.{true}
 use mathlib.Core.List.{List, [], _∷_, _++_, map, append-assoc, append-nil}
-use mathlib.Core.Path.{_≡_, refl, sym, ap, subst, _∙_}
+use mathlib.Core.Path.{_≡_, refl, ap, subst, _∙_}
 use Prim.Native.Nat.{ℕ, _+_, _≤_, _<_}
 use native.Mathlib.Omega.{arith}
 use lib.Dec.{eqb}
 use lib.ListN.{length}
 use Rattle.std.proofs.shelf.Lists.{length-append, length-push}
 use Rattle.std.proofs.shelf.Tests.{and-parts, and-from}
-use Rattle.std.specs.declared.result.Result.{Result}
-use Rattle.std.specs.declared.result.Result.the-variants.{Ok, Err}
+use Rattle.std.specs.declared.result.Result.the-variants.{Ok}
 use Rattle.std.specs.shelf.Text.{sameBytes}
 use Rattle.script.specs.Contents.{RuleContent}
 use Rattle.script.specs.Fields.{_>>=_, field}
@@ -17,11 +16,10 @@ use Rattle.script.specs.Reading.{ruleOf, blank, rulesOn}
 use Rattle.script.specs.Soundness.{every, soundRule}
 use Rattle.script.specs.Tables.{Row}
 use Rattle.script.specs.Texts.{ruleRow}
-use Rattle.script.specs.declared.rules.ReadError.{ReadError}
 use Rattle.script.specs.declared.rules.ReadError.the-variants.{Shape}
 use Rattle.script.proofs.Added.{Added, added-none, added-more}
-use Rattle.script.proofs.Fields.{bind-is, ask-is, from-ok}
-use Rattle.script.proofs.Lines.{First, first, row-is, rule-is, rule-line}
+use Rattle.script.proofs.Outcomes.{bind-is, ask-is, from-ok, not-ok}
+use Rattle.script.proofs.Lines.{first, row-is, rule-is, rule-line}
 use Rattle.script.proofs.Parting.{end}
 
 blank-is : (row : Row) → blank row ≡ true → row ≡ end
@@ -34,7 +32,7 @@ module _ (states : ℕ) where
 
   pub rules-are :
       (n : ℕ) (done : List RuleContent) (rows : List Row) (all : List RuleContent) → length done ≤ 64 → rulesOn n states done rows ≡ Ok all → RuleLines done rows all
-  rules-are n done [] all few e = let z : _≡_ {A = ℕ} 0 1 = cc in let w : ⊥ = omega arith in absurd w
+  rules-are n done [] all few e = not-ok (Shape n) all e
   rules-are n done (row ∷ []) all few e =
       let (last, k) = ask-is (blank row) (Shape n) (Ok done) all e in
       subst (RuleLines done (row ∷ [])) (from-ok k) (rw (blank-is row last) (added-none ruleRow (soundRule states) 64 done (end ∷ []) few))
