@@ -17,9 +17,11 @@ pub record Added {X : Type 0} (row : X → Row) (passes : X → Bool) (most : �
   pub few : length all ≤ most
 
 module _ {X : Type 0} (row : X → Row) (passes : X → Bool) (most : ℕ) where
+  -- nothing is added
   pub added-none : (done : List X) (rows : List Row) → length done ≤ most → Added row passes most done done rows rows
   added-none done rows few = record { items = []; behind = sym (append-nil done); lines = refl; each = refl; few = few }
 
+  -- one item, and what is added behind it
   pub added-more :
       (done all : List X) (x : X) (rows more rest : List Row) → passes x ≡ true → rows ≡ row x ∷ more → Added row passes most (done ++ x ∷ []) all more rest →
       Added row passes most done all rows rest

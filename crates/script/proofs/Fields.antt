@@ -16,8 +16,8 @@ use Rattle.script.specs.declared.rules.Act.{Act}
 use Rattle.script.specs.declared.rules.ReadError.{ReadError}
 use Rattle.script.specs.declared.rules.ReadError.the-variants.{Range, Letters}
 use Rattle.script.proofs.Letters.{marked, acts-is, acts-text}
-use Rattle.script.proofs.Outcomes.{bind-is, ask-is, okOr-is}
 use Rattle.script.proofs.Numbers.{numeral-is, numeral-decimal}
+use Rattle.script.proofs.Outcomes.{bind-is, ask-is, okOr-is}
 
 module _ (n : ℕ) (p : ℕ → Bool) where
   -- a number that is asked for more
@@ -36,6 +36,7 @@ module _ (n : ℕ) (p : ℕ → Bool) where
   unfolding numeralIn
   asked-decimal v small fits = rw (numeral-decimal v small, fits)
 
+-- a number in its range
 pub number-is : (n low high : ℕ) (f : List ℕ) (v : ℕ) → numberIn n low high f ≡ Ok v → (f ≡ decimal v) × (within low high v ≡ true)
 unfolding numberIn
 number-is n low high = asked-is n (within low high)
@@ -44,6 +45,7 @@ pub number-decimal : (n low high v : ℕ) → v < 1000 → within low high v ≡
 unfolding numberIn
 number-decimal n low high = asked-decimal n (within low high)
 
+-- a state
 pub state-is : (n states : ℕ) (f : List ℕ) (v : ℕ) → stateIn n states f ≡ Ok v → (f ≡ decimal v) × (ltb v states ≡ true)
 unfolding stateIn
 state-is n states = asked-is n (λ v. ltb v states)
@@ -52,6 +54,7 @@ pub state-decimal : (n states v : ℕ) → v < 1000 → ltb v states ≡ true �
 unfolding stateIn
 state-decimal n states = asked-decimal n (λ v. ltb v states)
 
+-- marks, which are their own text
 pub marks-is : (n most : ℕ) (f ms : List ℕ) → marksIn n most f ≡ Ok ms → (f ≡ ms) × ((every isMark ms && leb (length ms) most) ≡ true)
 unfolding marksIn
 marks-is n most f ms e =
@@ -63,6 +66,7 @@ pub marks-themselves : (n most : ℕ) (ms : List ℕ) → (every isMark ms && le
 unfolding marksIn
 marks-themselves n most ms fits = rw fits
 
+-- acts
 pub actsIn-is : (n : ℕ) (f : List ℕ) (all : List Act) → actsIn n f ≡ Ok all → (f ≡ actsText all) × (every marked all ≡ true) × (leb (length all) 4 ≡ true)
 unfolding actsIn
 actsIn-is n f all e =

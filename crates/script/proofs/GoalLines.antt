@@ -19,9 +19,11 @@ use Rattle.script.specs.Tables.{Row}
 use Rattle.script.specs.Texts.{goalRow}
 use Rattle.script.specs.declared.rules.ReadError.{ReadError}
 use Rattle.script.proofs.Added.{Added, added-none, added-more}
+use Rattle.script.proofs.Due.{first}
+use Rattle.script.proofs.Lines.{goal-is, goal-line}
 use Rattle.script.proofs.Outcomes.{bind-is, from-ok}
-use Rattle.script.proofs.Lines.{first, goal-is, goal-line}
 
+-- a goal above the last keeps the list rising
 rising-push : (done : List ℕ) (g : ℕ) → rising done ≡ true → above done g ≡ true → rising (done ++ g ∷ []) ≡ true
 rising-push [] g up over = refl
 rising-push (x ∷ []) g up over = and-from (ltb x g) true over refl
@@ -29,6 +31,7 @@ rising-push (x ∷ y ∷ ys) g up over =
     let (here, rest) = and-parts (ltb x y) (rising (y ∷ ys)) up in
     and-from (ltb x y) (rising ((y ∷ ys) ++ g ∷ [])) here (rising-push (y ∷ ys) g rest over)
 
+-- in a rising list each goal is above those before it
 rising-above : (done : List ℕ) (g : ℕ) (gs : List ℕ) → rising (done ++ g ∷ gs) ≡ true → above done g ≡ true
 rising-above [] g gs up = refl
 rising-above (x ∷ []) g gs up = and-parts (ltb x g) (rising (g ∷ gs)) up .0
@@ -39,6 +42,7 @@ module _ (states : ℕ) where
   abbrev pub GoalLines : List ℕ → List Row → Goals → Type 0
   GoalLines done rows a = Added goalRow (λ g. ltb g states) 8 done (a .goals) rows (a .rows) × (rising (a .goals) ≡ true)
 
+  -- what is read as goals is their lines
   pub goals-are :
       (n : ℕ) (done : List ℕ) (rows : List Row) (a : Goals) → length done ≤ 8 → rising done ≡ true → goalsOn n states done rows ≡ Ok a →
       GoalLines done rows a
@@ -59,6 +63,7 @@ module _ (states : ℕ) where
       go false later k = subst (GoalLines done (row ∷ rows)) (from-ok k) (added-none goalRow (λ g. ltb g states) 8 done (row ∷ rows) few, up)
 
   module _ (fits : states ≤ 64) (rest : List Row) (some : 0 < length rest) where
+    -- the lines of rising goals are read, up to the rows behind them, at which the goals end
     pub goals-read :
         ((k : ℕ) (all : List ℕ) → goalsOn k states all rest ≡ Ok (record { goals = all; next = k; rows = rest })) →
         (n : ℕ) (done gs : List ℕ) → every (λ g. ltb g states) gs ≡ true → rising (done ++ gs) ≡ true → length (done ++ gs) ≤ 8 →

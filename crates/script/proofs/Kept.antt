@@ -11,12 +11,14 @@ use Rattle.script.specs.Reading.{Head, Start}
 use Rattle.script.specs.Soundness.{every, rising, soundRule, sound}
 use Rattle.script.proofs.Lines.{soundHead, soundStartAt}
 
+-- the head and the start of a script
 abbrev pub headIn : Content → Head
 headIn c = record { states = c .states; width = c .width; depth = c .depth }
 
 abbrev pub startIn : Content → Start
 startIn c = record { state = c .start; marks = c .marks }
 
+-- what it is to be sound, part by part
 pub record Kept (c : Content) : Type 0 where
   pub head : soundHead (headIn c) ≡ true
   pub start : soundStartAt (c .states) (c .width) (startIn c) ≡ true

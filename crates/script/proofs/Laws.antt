@@ -15,10 +15,11 @@ use Rattle.script.specs.Soundness.{within, every, soundRule}
 use Rattle.script.specs.Tables.{Row, table}
 use Rattle.script.specs.Texts.{headRow, startRow, goalRow, ruleRow, rows, text}
 use Rattle.script.specs.declared.rules.ReadError.the-variants.{Size}
-use Rattle.script.proofs.Outcomes.{bind-is, ask-is, from-ok}
+use Rattle.script.proofs.Due.{First, first}
 use Rattle.script.proofs.GoalLines.{GoalLines, goals-are, goals-read}
 use Rattle.script.proofs.Kept.{headIn, startIn, Kept, kept, sound-from}
-use Rattle.script.proofs.Lines.{First, first, headLine, soundHead, startLine, soundStartAt, head-is, head-line, start-is, start-line}
+use Rattle.script.proofs.Lines.{headLine, soundHead, startLine, soundStartAt, head-is, head-line, start-is, start-line}
+use Rattle.script.proofs.Outcomes.{bind-is, ask-is, from-ok}
 use Rattle.script.proofs.Parting.{end, text-from-table}
 use Rattle.script.proofs.Rows.{few-states, table-text, text-length}
 use Rattle.script.proofs.RuleLines.{RuleLines, rules-are, rules-read}
@@ -45,6 +46,7 @@ rows-read c k =
     let rules = rules-read (c .states) few m [] (c .rules) (k .rules) (k .few-rules) in
     rw (append-assoc (map goalRow (c .goals)) (map ruleRow (c .rules)) (end ∷ []), head, start, goals, rules)
 
+-- the text of every script is accepted, and reads as that script
 pub text-is-accepted : Text-is-accepted
 unfolding reading
 text-is-accepted c sound = let k = kept c sound in rw (text-length c k, table-text c k) (rows-read c k)
@@ -98,6 +100,7 @@ rows-are rs c e =
     (from-ok k₃)
     (rows-from rs head start after rules (head-is 1 rs head e₀) (start-is 2 (head .states) (head .width) (drop 1 rs) start e₁) (goals-are (head .states) 3 [] (drop 2 rs) after (omega arith) refl e₂) (rules-are (head .states) (after .next) [] (after .rows) rules (omega arith) e₃))
 
+-- what is accepted is the text of the script that was read
 pub accepted-is-text : Accepted-is-text
 unfolding reading text
 accepted-is-text bytes c e =

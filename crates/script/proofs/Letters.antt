@@ -8,9 +8,9 @@ use lib.ListN.{length}
 use Rattle.std.proofs.shelf.Elements.{all-append}
 use Rattle.std.proofs.shelf.Tests.{and-parts, and-from}
 use Rattle.std.proofs.shelf.Ways.{tells}
-use Rattle.std.specs.shelf.Lists.{All}
 use Rattle.std.specs.declared.option.Option.{Option}
 use Rattle.std.specs.declared.option.Option.the-variants.{None, Some}
+use Rattle.std.specs.shelf.Lists.{All}
 use Rattle.script.specs.Fields.{actBy, actOf, before, acts}
 use Rattle.script.specs.Soundness.{every, isMark, markOf}
 use Rattle.script.specs.Texts.{actText, actsText}
@@ -30,6 +30,7 @@ actBy-is letter m (Inject x) e = let l : letter ≡ 105 = grind (arith, tells) i
 actBy-is letter m (Pop x) e = let l : letter ≡ 111 = grind (arith, tells) in let k : x ≡ m = grind (arith, tells) in (cc, k)
 actBy-is letter m (Eject x) e = let l : letter ≡ 101 = grind (arith, tells) in let k : x ≡ m = grind (arith, tells) in (cc, k)
 
+-- an act is read from its text, with a mark
 actOf-is : (letter m : ℕ) (a : Act) → actOf letter m ≡ Some a → (letter ∷ m ∷ [] ≡ actText a) × (marked a ≡ true)
 actOf-is letter m a e = go (isMark m) refl e
   where
@@ -37,6 +38,7 @@ actOf-is letter m a e = go (isMark m) refl e
     go true h k = let p = actBy-is letter m a k in (p .0, ap isMark (p .1) ∙ h)
     go false h k = not-some a k
 
+-- one act before others is read where each is
 before-is : (o : Option Act) (r : Option (List Act)) (all : List Act) → before o r ≡ Some all → (a : Act) × (rest : List Act) × (o ≡ Some a) × (r ≡ Some rest) × (all ≡ a ∷ rest)
 before-is None r all e = not-some all e
 before-is (Some a) None all e = not-some all e
@@ -70,7 +72,7 @@ pub marks-plain : (ms : List ℕ) → every isMark ms ≡ true → All Above ms
 marks-plain [] h = tt
 marks-plain (m ∷ ms) h = let p = and-parts (isMark m) (every isMark ms) h in (grind (arith, tells), marks-plain ms (p .1))
 
--- no letter of an act is one
+-- no byte of an act is a separator
 pub acts-plain : (all : List Act) → every marked all ≡ true → All Above (actsText all)
 acts-plain [] h = tt
 acts-plain (a ∷ rest) h =

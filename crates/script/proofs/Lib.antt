@@ -3,6 +3,7 @@ pub mod Parting
 pub mod Numbers
 pub mod Letters
 pub mod Fields
+pub mod Due
 pub mod Lines
 pub mod Added
 pub mod GoalLines

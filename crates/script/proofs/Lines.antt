@@ -1,78 +1,35 @@
 -- Lines: what the line of each kind is where it is read, and that it is read where it is that.
 use mathlib.Core.Bool.{Bool, true, _&&_}
 use mathlib.Core.List.{List, [], _∷_}
-use mathlib.Core.Path.{_≡_, refl, sym, ap, subst, _∙_}
-use Prim.Native.Nat.{ℕ, zero, suc, _≤_, _<_}
+use mathlib.Core.Path.{_≡_, refl, subst}
+use Prim.Native.Nat.{ℕ, _≤_, _<_}
 use native.Mathlib.Omega.{arith}
 use lib.Chars.{codes}
-use lib.Dec.{eqb, leb, ltb}
+use lib.Dec.{leb, ltb}
 use lib.ListN.{length}
-use Rattle.std.proofs.shelf.Equals.{sameBytes-decides}
-use Rattle.std.proofs.shelf.Tests.{and-parts, eqb-true, ltb-true, lt-ltb}
+use Rattle.std.proofs.shelf.Tests.{and-parts, ltb-true, lt-ltb}
 use Rattle.std.proofs.shelf.Ways.{tells}
 use Rattle.std.specs.Written.{decimal}
 use Rattle.std.specs.declared.result.Result.the-variants.{Ok}
-use Rattle.std.specs.shelf.Text.{sameBytes}
 use Rattle.script.specs.Contents.{RuleContent}
 use Rattle.script.specs.Fields.{field, numberIn, stateIn, marksIn, actsIn}
 use Rattle.script.specs.Reading.{due, Head, headOf, Start, startOf, above, goalOf, ruleOf}
 use Rattle.script.specs.Soundness.{within, every, isMark, soundRule}
 use Rattle.script.specs.Tables.{Row}
 use Rattle.script.specs.Texts.{goalRow, ruleRow}
-use Rattle.script.specs.declared.rules.ReadError.the-variants.{Shape, Sequence}
-use Rattle.script.proofs.Outcomes.{bind-is, ask-is, from-ok, not-ok}
+use Rattle.script.specs.declared.rules.ReadError.the-variants.{Sequence}
+use Rattle.script.proofs.Due.{First, at-first, due-is}
 use Rattle.script.proofs.Fields.{number-is, number-decimal, state-is, state-decimal, marks-is, marks-themselves, actsIn-is, actsIn-text}
+use Rattle.script.proofs.Outcomes.{bind-is, ask-is, from-ok}
 
--- the row is the first, and another stands behind it
-pub record First (rows : List Row) (row : Row) : Type 0 where
-  pub next : Row
-  pub more : List Row
-  pub is : rows ≡ row ∷ next ∷ more
-
-pub first : (row : Row) (rest : List Row) → 0 < length rest → First (row ∷ rest) row
-first row [] some = let w : ⊥ = omega arith in absurd w
-first row (next ∷ more) some = record { next = next; more = more; is = refl }
-
-at-first : {rows : List Row} {row same : Row} → First rows row → row ≡ same → First rows same
-at-first {rows} f e = subst (First rows) e f
-
--- so many fields of the row, from a place on
-abbrev fields : ℕ → ℕ → Row → Row
-fields k zero row = []
-fields k (suc n) row = field k row ∷ fields (suc k) n row
-
-fields-behind : (k n : ℕ) (f : List ℕ) (row : Row) → fields (suc k) n (f ∷ row) ≡ fields k n row
-fields-behind k zero f row = refl
-fields-behind k (suc n) f row = ap {B = Row} (λ z. field k row ∷ z) (fields-behind (suc k) n f row)
-
-fields-all : (row : Row) → row ≡ fields 0 (length row) row
-fields-all [] = refl
-fields-all (f ∷ row) = ap {B = Row} (λ z. f ∷ z) (fields-all row ∙ sym (fields-behind 0 (length row) f row))
-
--- a row of so many fields with its word in front
-pub row-is : (word : List ℕ) (count : ℕ) (row : Row) → (sameBytes (field 0 row) word && eqb (length row) (suc count)) ≡ true → row ≡ word ∷ fields 1 count row
-row-is word count row h =
-    let (w, l) = and-parts (sameBytes (field 0 row) word) (eqb (length row) (suc count)) h in
-    let is = sameBytes-decides (field 0 row) word .0 w in
-    let many = eqb-true (length row) (suc count) l in
-    fields-all row ∙ (ap (λ z. fields 0 z row) many ∙ ap {B = Row} (λ z. z ∷ fields 1 count row) is)
-
-due-is : (n : ℕ) (word : List ℕ) (count : ℕ) (rows : List Row) (row : Row) → due n word (suc count) rows ≡ Ok row → First rows row × (row ≡ word ∷ fields 1 count row)
-unfolding due
-due-is n word count [] row e = not-ok (Shape n) row e
-due-is n word count (r ∷ []) row e = not-ok (Shape n) row e
-due-is n word count (r ∷ next ∷ more) row e =
-    let (fits, same) = ask-is (sameBytes (field 0 r) word && eqb (length r) (suc count)) (Shape n) (Ok r) row e in
-    let is : r ≡ row = cc in
-    (record { next = next; more = more; is = ap {B = List Row} (λ z. z ∷ next ∷ more) is }, row-is word count row (ap (λ z. sameBytes (field 0 z) word && eqb (length z) (suc count)) (sym is) ∙ fits))
-
--- the row of a head
+-- the row of a head, and its ranges
 abbrev pub headLine : Head → Row
 headLine h = codes "script" ∷ decimal 1 ∷ decimal (h .states) ∷ decimal (h .width) ∷ decimal (h .depth) ∷ []
 
 abbrev pub soundHead : Head → Bool
 soundHead h = within 1 64 (h .states) && within 1 255 (h .width) && within 0 255 (h .depth)
 
+-- what is read as a head is its line
 pub head-is : (n : ℕ) (rows : List Row) (h : Head) → headOf n rows ≡ Ok h → First rows (headLine h) × (soundHead h ≡ true)
 unfolding headOf
 head-is n rows h e =
@@ -92,6 +49,7 @@ head-is n rows h e =
     (from-ok k₄)
     (at-first first (cc), grind (arith, tells))
 
+-- the line of a head is read as it
 pub head-line : (n : ℕ) (rows : List Row) (h : Head) → First rows (headLine h) → soundHead h ≡ true → headOf n rows ≡ Ok h
 unfolding headOf due
 head-line n rows h first sound =
@@ -101,6 +59,7 @@ head-line n rows h first sound =
     let e₄ = number-decimal n 0 255 (h .depth) (grind (arith, tells)) (grind (arith, tells)) in
     rw (first .is, e₁, e₂, e₃, e₄)
 
+-- the same of the start
 abbrev pub startLine : Start → Row
 startLine s = codes "start" ∷ decimal (s .state) ∷ s .marks ∷ []
 
@@ -130,6 +89,7 @@ start-line n states width rows s first few sound =
     let e₂ = marks-themselves n width (s .marks) (grind (arith, tells)) in
     rw (first .is, e₁, e₂)
 
+-- the same of a goal behind those done
 pub goal-is :
     (n states : ℕ) (done : List ℕ) (rows : List Row) (g : ℕ) → goalOf n states done rows ≡ Ok g →
     First rows (goalRow g) × (ltb g states ≡ true) × (above done g ≡ true) × (length done < 8)
@@ -154,6 +114,7 @@ goal-line n states done rows g first few there up room =
     let e₁ = state-decimal n states g (grind (arith, tells)) there in
     rw (first .is, e₁, up, lt-ltb (length done) 8 room)
 
+-- the same of a rule behind so many
 pub rule-is :
     (n states count : ℕ) (rows : List Row) (r : RuleContent) → ruleOf n states count rows ≡ Ok r →
     First rows (ruleRow r) × (soundRule states r ≡ true) × (count < 64)

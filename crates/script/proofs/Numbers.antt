@@ -25,6 +25,7 @@ decimal-more n b some small low high =
     let last : 48 + v % 10 ≡ b = omega arith in
     decimal-step v (omega arith) (omega arith) ∙ cc (front, last)
 
+-- one, two and three digits, by their bytes
 decimal-one : (a : ℕ) → 48 ≤ a → a ≤ 57 → decimal (a - 48) ≡ a ∷ []
 decimal-one a low high =
     let e : 48 + (a - 48) ≡ a = omega arith in

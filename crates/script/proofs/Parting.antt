@@ -20,6 +20,7 @@ Free s p = All (λ b. b ≡ s → ⊥) p
 abbrev pub end : Row
 end = [] ∷ []
 
+-- there is a first part
 parts-some : (s : ℕ) (t : List ℕ) → 0 < length (parts s t)
 parts-some s [] = omega arith
 parts-some s (b ∷ bs) = cond-both (eqb b s) ([] ∷ parts s bs) (longer b (parts s bs)) (λ ps. 0 < length ps) (λ _. omega arith) (λ _. some (parts s bs))
@@ -28,6 +29,7 @@ parts-some s (b ∷ bs) = cond-both (eqb b s) ([] ∷ parts s bs) (longer b (par
     some [] = omega arith
     some (p ∷ ps) = omega arith
 
+-- joining, part by part and byte by byte
 join-more : (s : ℕ) (p : List ℕ) (ps : List (List ℕ)) → 0 < length ps → join s (p ∷ ps) ≡ p ++ s ∷ join s ps
 join-more s p [] h = let w : ⊥ = omega arith in absurd w
 join-more s p (q ∷ ps) h = refl
@@ -45,6 +47,7 @@ join-parts s (b ∷ bs) =
     let again = join-parts s bs in
     cond-both (eqb b s) ([] ∷ rest) (longer b rest) (λ ps. join s ps ≡ b ∷ bs) (λ e. join-more s [] rest (parts-some s bs) ∙ cc (again, eqb-true b s e)) (λ _. join-longer s b rest ∙ cc again)
 
+-- parting, where the first part does not hold the separator
 parts-last : (s : ℕ) (p : List ℕ) → Free s p → parts s p ≡ p ∷ []
 parts-last s [] h = refl
 parts-last s (b ∷ p) h = cond-false (eqb b s) ([] ∷ parts s p) (longer b (parts s p)) (ne-eqb b s (h .0)) ∙ ap (longer b) (parts-last s p (h .1))
@@ -76,6 +79,7 @@ join-table t = ap (join 10) (each (parts 10 t)) ∙ join-parts 10 t
     each [] = refl
     each (l ∷ ls) = cc (join-parts 9 l, each ls)
 
+-- lines that end with line feeds are lines joined by them, with nothing behind the last
 lines-join : (rs : List Row) → joined line rs ≡ join 10 (map (join 9) (rs ++ end ∷ []))
 lines-join [] = refl
 lines-join (r ∷ []) = append-assoc (join 9 r) (10 ∷ []) []
@@ -94,9 +98,11 @@ pub record Plain (row : Row) : Type 0 where
   pub some : 0 < length row
   pub bytes : All (All Above) row
 
+-- plain fields hold no separator
 free : (s : ℕ) → s ≤ 10 → (row : Row) → Plain row → All (Free s) row
 free s h row p = all-weaker (All Above) (Free s) (all-weaker Above (λ b. b ≡ s → ⊥) (λ b above. omega arith)) row (p .bytes)
 
+-- plain rows are the table of the text that they make
 table-join : (rs : List Row) → 0 < length rs → All Plain rs → table (join 10 (map (join 9) rs)) ≡ rs
 unfolding table
 table-join rs some h =

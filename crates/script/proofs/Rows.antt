@@ -28,6 +28,7 @@ record Small (f : List ℕ) : Type 0 where
   pub short : length f ≤ 3
   pub plain : All Above f
 
+-- so is a number of the text
 small : (v : ℕ) → v < 1000 → Small (decimal v)
 small v h = record { short = length-decimal-le 3 v (omega arith) (omega arith) (omega arith); plain = decimal-plain v h }
 
@@ -41,6 +42,7 @@ each-fits : {X : Type 0} (most : ℕ) (row : X → Row) (passes : X → Bool) �
 each-fits most row passes one [] h = tt
 each-fits most row passes one (x ∷ xs) h = let (here, others) = and-parts (passes x) (every passes xs) h in (one x here, each-fits most row passes one xs others)
 
+-- the row of each kind
 goal-fits : (states : ℕ) → states ≤ 64 → (g : ℕ) → ltb g states ≡ true → Fits 24 (goalRow g)
 goal-fits states few g h =
     let goal = small g (grind (arith, tells)) in
@@ -55,6 +57,7 @@ rule-fits states few r h =
     let bytes = length-acts (r .acts) in
     record { plain = record { some = omega arith; bytes = (omega arith, (from .plain, (to .plain, (acts, tt)))) }; short = simp length-append (omega arith) }
 
+-- the bytes of short lines
 length-lines : (rs : List Row) → All (Fits 24) rs → length (joined line rs) ≤ 24 * length rs
 length-lines [] h = omega arith
 length-lines (r ∷ rs) h = let here = h .0 .short in let others = length-lines rs (h .1) in rw length-append (omega arith)
@@ -78,9 +81,11 @@ module _ (c : Content) (k : Kept c) where
       let few : length (c .marks) ≤ 255 = grind (arith, tells) in
       record { plain = record { some = omega arith; bytes = (omega arith, (start .plain, (marks, tt))) }; short = simp length-append (omega arith) }
 
+  -- so few states that each is a small number
   pub few-states : c .states ≤ 64
   few-states = grind (arith, tells)
 
+  -- the rows behind the first two
   list-fits : All (Fits 24) (map goalRow (c .goals) ++ map ruleRow (c .rules))
   list-fits =
       all-append
@@ -90,10 +95,12 @@ module _ (c : Content) (k : Kept c) where
       (each-fits 24 goalRow (λ g. ltb g (c .states)) (goal-fits (c .states) few-states) (c .goals) (k .goals))
       (each-fits 24 ruleRow (soundRule (c .states)) (rule-fits (c .states) few-states) (c .rules) (k .rules))
 
+  -- the table of the text is its rows
   pub table-text : table (text c) ≡ rows c ++ end ∷ []
   unfolding text
   table-text = table-lines (rows c) (head-fits .plain, (start-fits .plain, all-weaker (Fits 24) Plain (λ r f. f .plain) _ list-fits))
 
+  -- the text is neither empty nor too long
   pub text-length : within 1 4096 (length (text c)) ≡ true
   unfolding text
   text-length =

@@ -18,10 +18,12 @@ use Rattle.script.specs.Tables.{Row}
 use Rattle.script.specs.Texts.{ruleRow}
 use Rattle.script.specs.declared.rules.ReadError.the-variants.{Shape}
 use Rattle.script.proofs.Added.{Added, added-none, added-more}
+use Rattle.script.proofs.Due.{first, row-is}
+use Rattle.script.proofs.Lines.{rule-is, rule-line}
 use Rattle.script.proofs.Outcomes.{bind-is, ask-is, from-ok, not-ok}
-use Rattle.script.proofs.Lines.{first, row-is, rule-is, rule-line}
 use Rattle.script.proofs.Parting.{end}
 
+-- a blank row is the end
 blank-is : (row : Row) → blank row ≡ true → row ≡ end
 blank-is row h = let (one, none) = and-parts (eqb (length row) 1) (sameBytes (field 0 row) []) h in row-is [] 0 row (and-from (sameBytes (field 0 row) []) (eqb (length row) 1) none one)
 
@@ -30,6 +32,7 @@ module _ (states : ℕ) where
   abbrev pub RuleLines : List RuleContent → List Row → List RuleContent → Type 0
   RuleLines done rows all = Added ruleRow (soundRule states) 64 done all rows (end ∷ [])
 
+  -- what is read as rules is their lines
   pub rules-are :
       (n : ℕ) (done : List RuleContent) (rows : List Row) (all : List RuleContent) → length done ≤ 64 → rulesOn n states done rows ≡ Ok all → RuleLines done rows all
   rules-are n done [] all few e = not-ok (Shape n) all e
@@ -43,12 +46,14 @@ module _ (states : ℕ) where
       let more = rules-are (n + 1) (done ++ r ∷ []) (next ∷ rows) all (rw length-push (omega arith)) k₀ in
       added-more ruleRow (soundRule states) 64 done all r (row ∷ next ∷ rows) (next ∷ rows) (end ∷ []) keeps (ap {B = List Row} (λ z. z ∷ next ∷ rows) is) more
 
+  -- before the last row a rule is due
   rules-more :
       (n : ℕ) (done : List RuleContent) (row : Row) (rest : List Row) → 0 < length rest →
       rulesOn n states done (row ∷ rest) ≡ (ruleOf n states (length done) (row ∷ rest) >>= λ r. rulesOn (n + 1) states (done ++ r ∷ []) rest)
   rules-more n done row [] some = let w : ⊥ = omega arith in absurd w
   rules-more n done row (next ∷ rows) some = refl
 
+  -- the lines of rules are read, up to the end
   pub rules-read :
       states ≤ 64 → (n : ℕ) (done rs : List RuleContent) → every (soundRule states) rs ≡ true → length (done ++ rs) ≤ 64 →
       rulesOn n states done (map ruleRow rs ++ end ∷ []) ≡ Ok (done ++ rs)

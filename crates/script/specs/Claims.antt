@@ -1,8 +1,9 @@
--- Laws of reading and writing that hold of every text and every script.
+-- Laws of reading and writing that hold of every text and every script, and texts that are refused.
 use mathlib.Core.Bool.{true}
-use mathlib.Core.List.{List, [], _∷_}
+use mathlib.Core.List.{List, [], _∷_, map}
 use mathlib.Core.Path.{_≡_}
 use Prim.Native.Nat.{ℕ}
+use Prim.Native.String.{String}
 use lib.Chars.{codes}
 use Rattle.std.specs.Joined.{joined}
 use Rattle.std.specs.declared.option.Option.{Option}
@@ -13,7 +14,7 @@ use Rattle.script.specs.Contents.{Content}
 use Rattle.script.specs.Reading.{reading}
 use Rattle.script.specs.Refusals.{Refusal, refusal}
 use Rattle.script.specs.Soundness.{sound}
-use Rattle.script.specs.Tables.{Row, line}
+use Rattle.script.specs.Tables.{line}
 use Rattle.script.specs.Texts.{text}
 use Rattle.script.specs.declared.rules.ReadError.{ReadError}
 
@@ -29,15 +30,16 @@ abbrev pub refusedWith : Result Content ReadError → Option Refusal
 refusedWith (Ok c) = None
 refusedWith (Err e) = refusal e
 
--- what the text of the rows is refused with
-abbrev pub refused : List Row → Option Refusal
-refused rows = refusedWith (reading (joined line rows))
+-- what the text of these lines, each the list of its fields, is refused with
+abbrev pub refused : List (List String) → Option Refusal
+refused lines = refusedWith (reading (joined (λ fields. line (map codes fields)) lines))
+
+abbrev pub refusedAt : ℕ → ℕ → Option Refusal
+refusedAt number line = Some (record { number = number; line = line })
 
 -- a number that begins with 0, a state that is not there and an act without its mark, each at its line
 abbrev pub Worked : Type 0
 Worked =
-    (refused ((codes "script" ∷ codes "1" ∷ codes "02" ∷ codes "4" ∷ codes "6" ∷ []) ∷ (codes "start" ∷ codes "0" ∷ [] ∷ []) ∷ []) ≡ Some (record { number = 14; line = 1 }))
-    × (refused
-    ((codes "script" ∷ codes "1" ∷ codes "64" ∷ codes "4" ∷ codes "6" ∷ []) ∷ (codes "start" ∷ codes "63" ∷ codes "ab" ∷ []) ∷ (codes "goal" ∷ codes "63" ∷ []) ∷ (codes "rule" ∷ codes "64" ∷ codes "0" ∷ codes "oaib" ∷ []) ∷ []) ≡ Some (record { number = 15; line = 4 }))
-    × (refused
-    ((codes "script" ∷ codes "1" ∷ codes "2" ∷ codes "4" ∷ codes "6" ∷ []) ∷ (codes "start" ∷ codes "0" ∷ codes "ab" ∷ []) ∷ (codes "rule" ∷ codes "0" ∷ codes "1" ∷ codes "oai" ∷ []) ∷ []) ≡ Some (record { number = 16; line = 3 }))
+    (refused (("script" ∷ "1" ∷ "02" ∷ "4" ∷ "6" ∷ []) ∷ ("start" ∷ "0" ∷ "" ∷ []) ∷ []) ≡ refusedAt 14 1)
+    × (refused (("script" ∷ "1" ∷ "64" ∷ "4" ∷ "6" ∷ []) ∷ ("start" ∷ "63" ∷ "ab" ∷ []) ∷ ("goal" ∷ "63" ∷ []) ∷ ("rule" ∷ "64" ∷ "0" ∷ "oaib" ∷ []) ∷ []) ≡ refusedAt 15 4)
+    × (refused (("script" ∷ "1" ∷ "2" ∷ "4" ∷ "6" ∷ []) ∷ ("start" ∷ "0" ∷ "ab" ∷ []) ∷ ("rule" ∷ "0" ∷ "1" ∷ "oai" ∷ []) ∷ []) ≡ refusedAt 16 3)
