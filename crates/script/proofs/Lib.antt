@@ -1,0 +1,14 @@
+pub mod Outcomes
+pub mod Parting
+pub mod Numbers
+pub mod Letters
+pub mod Fields
+pub mod Due
+pub mod Lines
+pub mod Added
+pub mod GoalLines
+pub mod RuleLines
+pub mod Kept
+pub mod Rows
+pub mod Laws
+pub mod Worked
