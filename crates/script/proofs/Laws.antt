@@ -11,7 +11,7 @@ use Rattle.std.specs.declared.result.Result.the-variants.{Ok}
 use Rattle.script.specs.Claims.{Accepted-is-text, Text-is-accepted}
 use Rattle.script.specs.Contents.{Content, RuleContent}
 use Rattle.script.specs.Reading.{Head, headOf, Start, startOf, Goals, goalsOn, rulesOn, readRows, reading}
-use Rattle.script.specs.Soundness.{within, every, soundRule}
+use Rattle.script.specs.Soundness.{within, every, sound, soundRule}
 use Rattle.script.specs.Tables.{Row, table}
 use Rattle.script.specs.Texts.{headRow, startRow, goalRow, ruleRow, rows, text}
 use Rattle.script.specs.declared.rules.ReadError.the-variants.{Size}
@@ -99,6 +99,10 @@ rows-are rs c e =
     (Rows-of rs)
     (from-ok k₃)
     (rows-from rs head start after rules (head-is 1 rs head e₀) (start-is 2 (head .states) (head .width) (drop 1 rs) start e₁) (goals-are (head .states) 3 [] (drop 2 rs) after (omega arith) refl e₂) (rules-are (head .states) (after .next) [] (after .rows) rules (omega arith) e₃))
+
+-- and keep the rules of a script
+pub rows-sound : (rs : List Row) (c : Content) → readRows rs ≡ Ok c → sound c ≡ true
+rows-sound rs c e = sound-from c (rows-are rs c e .0)
 
 -- what is accepted is the text of the script that was read
 pub accepted-is-text : Accepted-is-text

@@ -21,7 +21,7 @@ abbrev pub end : Row
 end = [] ∷ []
 
 -- there is a first part
-parts-some : (s : ℕ) (t : List ℕ) → 0 < length (parts s t)
+pub parts-some : (s : ℕ) (t : List ℕ) → 0 < length (parts s t)
 parts-some s [] = omega arith
 parts-some s (b ∷ bs) = cond-both (eqb b s) ([] ∷ parts s bs) (longer b (parts s bs)) (λ ps. 0 < length ps) (λ _. omega arith) (λ _. some (parts s bs))
   where
@@ -48,11 +48,11 @@ join-parts s (b ∷ bs) =
     cond-both (eqb b s) ([] ∷ rest) (longer b rest) (λ ps. join s ps ≡ b ∷ bs) (λ e. join-more s [] rest (parts-some s bs) ∙ cc (again, eqb-true b s e)) (λ _. join-longer s b rest ∙ cc again)
 
 -- parting, where the first part does not hold the separator
-parts-last : (s : ℕ) (p : List ℕ) → Free s p → parts s p ≡ p ∷ []
+pub parts-last : (s : ℕ) (p : List ℕ) → Free s p → parts s p ≡ p ∷ []
 parts-last s [] h = refl
 parts-last s (b ∷ p) h = cond-false (eqb b s) ([] ∷ parts s p) (longer b (parts s p)) (ne-eqb b s (h .0)) ∙ ap (longer b) (parts-last s p (h .1))
 
-parts-more : (s : ℕ) (p q : List ℕ) → Free s p → parts s (p ++ s ∷ q) ≡ p ∷ parts s q
+pub parts-more : (s : ℕ) (p q : List ℕ) → Free s p → parts s (p ++ s ∷ q) ≡ p ∷ parts s q
 parts-more s [] q h = cond-true (eqb s s) ([] ∷ parts s q) (longer s (parts s q)) (eq-eqb s s refl)
 parts-more s (b ∷ p) q h =
     let t = p ++ s ∷ q in

@@ -13,6 +13,7 @@ use Rattle.script.specs.Tables.{Row}
 use Rattle.script.specs.declared.rules.Rule.{Rule}
 use Rattle.script.specs.declared.rules.ReadError.{ReadError}
 use Rattle.script.specs.declared.rules.ReadError.the-variants.{Shape}
+use Rattle.script.proofs.Outcomes.{not-ok}
 use Rattle.script_text.specs.Places.{ended}
 use Rattle.std.proofs.shelf.Lists.{length-map, map-push}
 use Rattle.std.proofs.shelf.Tests.{false≢true}
@@ -28,14 +29,11 @@ pub goals-end : (n states : ℕ) (done : List ℕ) (rows : List Row) → sameByt
 goals-end n states done [] other = refl
 goals-end n states done (row ∷ rows) other = rw other
 
-different : {X E : Type 0} (x : X) (e : E) (P : Type 0) → _≡_ {A = Result X E} (Err e) (Ok x) → P
-different x e P same = let z : _≡_ {A = ℕ} 0 1 = cc in absurd (omega (arith, z))
-
 -- a rule is read only where another row stands behind its own
 pub rules-more : (n states : ℕ) (done : List Rule) (rule : Rule) (rows : List Row) → ruleOf n states (length done) rows ≡ Ok (ruleContent rule) → rulesOn (n + 1) states (map ruleContent (done ++ rule ∷ [])) (drop 1 rows) ≡ rulesOn n states (map ruleContent done) rows
 unfolding ruleOf due
-rules-more n states done rule [] known = different (ruleContent rule) (Shape n) _ known
-rules-more n states done rule (row ∷ []) known = different (ruleContent rule) (Shape n) _ known
+rules-more n states done rule [] known = not-ok (Shape n) (ruleContent rule) known
+rules-more n states done rule (row ∷ []) known = not-ok (Shape n) (ruleContent rule) known
 rules-more n states done rule (row ∷ next ∷ rows) known = rw (length-map done ruleContent, known, map-push ruleContent done rule)
 
 pub rules-refused : (n states : ℕ) (done : List Rule) (rows : List Row) (e : ReadError) → ended rows ≡ false → ruleOf n states (length done) rows ≡ Err e → rulesOn n states (map ruleContent done) rows ≡ Err e

@@ -1,6 +1,7 @@
 pub mod Acts
 pub mod Tables
 pub mod Rising
+pub mod Exactly
 pub mod Following
 pub mod Refusing
 pub mod Splitting

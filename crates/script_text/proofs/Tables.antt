@@ -11,8 +11,8 @@ use Rattle.script.specs.Reading.{blank, due, shaped}
 use Rattle.script.specs.Tables.{Row, longer, parts, table}
 use Rattle.script.specs.declared.rules.ReadError.{ReadError}
 use Rattle.script.specs.declared.rules.ReadError.the-variants.{Shape}
+use Rattle.script.proofs.Parting.{parts-some}
 use Rattle.script_text.specs.Places.{ended}
-use Rattle.script_text.proofs.Splitting.{parts-some}
 use Rattle.std.proofs.shelf.Tests.{and-left, and-right, cond-false, cond-true, ne-eqb}
 use Rattle.std.specs.declared.result.Result.the-variants.{Ok, Err}
 use Rattle.std.specs.shelf.Text.{sameBytes}

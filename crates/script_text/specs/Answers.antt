@@ -1,9 +1,14 @@
 -- What a call that reads answers: what the definition says, but for want of memory, which says nothing of the text.
+use mathlib.Core.Bool.{true}
+use mathlib.Core.List.{List}
 use mathlib.Core.Path.{_≡_}
+use Prim.Native.Nat.{ℕ}
 use Rattle.std.specs.declared.result.Result.{Result}
 use Rattle.std.specs.declared.result.Result.the-variants.{Ok, Err}
 use Rattle.script.specs.Contents.{Content}
 use Rattle.script.specs.Scripts.{content}
+use Rattle.script.specs.Soundness.{sound}
+use Rattle.script.specs.Texts.{text}
 use Rattle.script.specs.declared.rules.ReadError.{ReadError}
 use Rattle.script.specs.declared.rules.ReadError.the-variants.{Memory}
 use Rattle.script.specs.declared.scripts.Script.{Script}
@@ -17,3 +22,8 @@ Answers defined meaning (Err e) = (e ≡ Memory → ⊥) → defined ≡ Err e
 abbrev pub Replaced : Result Content ReadError → Script → Script → Result (Unit {0}) ReadError → Type 0
 Replaced defined before after (Ok u) = defined ≡ Ok (content after)
 Replaced defined before after (Err e) = (after ≡ before) × ((e ≡ Memory → ⊥) → defined ≡ Err e)
+
+-- what was read has just this text, and what was refused is the text of no script
+abbrev pub Exact : List ℕ → Result Script ReadError → Type 0
+Exact bytes (Ok s) = bytes ≡ text (content s)
+Exact bytes (Err e) = (e ≡ Memory → ⊥) → (c : Content) → sound c ≡ true → bytes ≡ text c → ⊥

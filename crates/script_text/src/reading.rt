@@ -1,12 +1,10 @@
 // From a text to a script.
-ghost use lib.ListN.{length};
-ghost use mathlib.Core.Bool.{true};
 ghost use mathlib.Core.List.{[]};
 ghost use mathlib.Core.Path.{_≡_};
 ghost use Prim.Native.Nat.{_+_};
 ghost use Rattle.script.specs.Scripts.{content, ruleContents};
-ghost use Rattle.script.specs.Reading.{goalsOn, reading, rulesOn};
-ghost use Rattle.script_text.specs.Answers.{Answers, Replaced};
+ghost use Rattle.script.specs.Reading.{goalsOn, readRows, reading, rulesOn};
+ghost use Rattle.script_text.specs.Answers.{Answers, Exact, Replaced};
 ghost use Rattle.script_text.specs.Meanings.{goalsMeaning};
 ghost use Rattle.script_text.specs.Places.{rowsLeft};
 ghost use Rattle.std.specs.Of.Vec.{vec-items};
@@ -48,14 +46,11 @@ fn read_rules(heap: Global, reader: &mut Reader, states: u8) -> Result<Vec<Rule>
     Ok(rules)
 }
 
-/// The script of a text, or the first question that is answered no.
-pub fn parse(heap: Global, text: &[u8]) -> Result<Script, ReadError>
-    ensures answer { λ r. ⌜ Answers (reading (now (text .entry))) content r ⌝ }
+/// The script of the lines that stand behind the reader.
+fn read_script(heap: Global, mut reader: Reader) -> Result<Script, ReadError>
+    requires { ⌜ reader .line ≡ 0 ⌝ }
+    ensures { λ r. ⌜ Answers (readRows (rowsLeft (reader .entry))) content r ⌝ }
 {
-    if text.is_empty() || text.len() > LONGEST {
-        return Err(ReadError::Size);
-    }
-    let mut reader = Reader::new(text);
     let head = read_head(&mut reader)?;
     let start = read_start(heap, &mut reader, head.states, head.width)?;
     let goals = read_goals(heap, &mut reader, head.states)?;
@@ -71,10 +66,21 @@ pub fn parse(heap: Global, text: &[u8]) -> Result<Script, ReadError>
     })
 }
 
-/// Puts the script of a text in the place of another, which stays as it was where the text is refused.
-pub fn read(script: &mut Script, heap: Global, text: &[u8]) -> Result<(), ReadError>
-    ensures { λ r. ⌜ Replaced (reading (now (text .entry))) (now (script .entry)) (now (script .exit)) r ⌝ }
+/// The script of a text, or the first question that is answered no.
+pub fn parse(heap: Global, bytes: &[u8]) -> Result<Script, ReadError>
+    ensures answer { λ r. ⌜ Answers (reading (now (bytes .entry))) content r ⌝ }
+    ensures exact { λ r. ⌜ Exact (now (bytes .entry)) r ⌝ }
 {
-    *script = parse(heap, text)?;
+    if bytes.is_empty() || bytes.len() > LONGEST {
+        return Err(ReadError::Size);
+    }
+    read_script(heap, Reader::new(bytes))
+}
+
+/// Puts the script of a text in the place of another, which stays as it was where the text is refused.
+pub fn read(script: &mut Script, heap: Global, bytes: &[u8]) -> Result<(), ReadError>
+    ensures { λ r. ⌜ Replaced (reading (now (bytes .entry))) (now (script .entry)) (now (script .exit)) r ⌝ }
+{
+    *script = parse(heap, bytes)?;
     Ok(())
 }

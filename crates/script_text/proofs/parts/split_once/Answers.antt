@@ -1,9 +1,10 @@
 use native.Mathlib.Nat.{sub-zero}
 use native.Mathlib.Omega.{arith}
-use mathlib.Core.Bool.{true}
 use mathlib.Core.Path.{_≡_}
+use Rattle.script.proofs.Parting.{Free, parts-last}
+use Rattle.std.proofs.shelf.Elements.{all-more}
 use Rattle.std.proofs.shelf.Lists.{length-drop, length-take-le, take-all, take-rest}
-use Rattle.script_text.proofs.Splitting.{cut, free, free-more, parts-alone}
+use Rattle.script_text.proofs.Splitting.{cut}
 use Rattle.script_text.proofs.parts.split_once.Needs as need
 
 pub returns-then-b-separator : need.returns-then-b-separator
@@ -15,11 +16,9 @@ returns-then-b-separator c =
 
 pub loop-i-again : need.loop-i-again
 loop-i-again c =
-    free-more (c .args .separator) (c .args .text .now) (c .loop-i .i) (c .loop-i-test .taken) (c .loop-i .inv) (c .if-b-separator .left)
+    all-more (λ b. b ≡ c .args .separator → ⊥) (c .args .text .now) (c .loop-i .i) 0 (c .loop-i-test .taken) (c .loop-i .inv) (c .if-b-separator .left)
 
 pub returns : need.returns
 returns c =
-    let clear : free (c .args .separator) (c .args .text .now) ≡ true =
-    rw (take-all (c .loop-i .i) (c .args .text .now) (c .loop-i-test .left)) at (c .loop-i .inv)
-    in
-    record { parts = parts-alone (c .args .separator) (c .args .text .now) clear; shorter = tt }
+    let clear : Free (c .args .separator) (c .args .text .now) = rw (take-all (c .loop-i .i) (c .args .text .now) (c .loop-i-test .left)) at (c .loop-i .inv) in
+    record { parts = parts-last (c .args .separator) (c .args .text .now) clear; shorter = tt }
