@@ -12,11 +12,12 @@ use Rattle.std.specs.declared.result.Result.{Result}
 use Rattle.std.specs.declared.result.Result.the-variants.{Ok, Err}
 use Rattle.script.specs.Contents.{Content}
 use Rattle.script.specs.Reading.{reading}
-use Rattle.script.specs.Refusals.{Refusal, refusal}
+use Rattle.script.specs.Refusals.{refusal}
 use Rattle.script.specs.Soundness.{sound}
 use Rattle.script.specs.Tables.{line}
 use Rattle.script.specs.Texts.{text}
 use Rattle.script.specs.declared.rules.ReadError.{ReadError}
+use Rattle.script.specs.declared.rules.Refusal.{Refusal}
 
 -- what is accepted is the text of a script, and of the one that was read
 abbrev pub Accepted-is-text : Type 0

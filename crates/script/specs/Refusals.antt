@@ -1,13 +1,14 @@
 -- The number of each refusal and the line that it names; want of memory has neither.
+use mathlib.Core.List.{List, [], _∷_}
 use Prim.Native.Nat.{ℕ}
+use lib.Chars.{codes}
+use Rattle.std.specs.Written.{decimal}
 use Rattle.std.specs.declared.option.Option.{Option}
 use Rattle.std.specs.declared.option.Option.the-variants.{None, Some}
+use Rattle.script.specs.Tables.{line}
 use Rattle.script.specs.declared.rules.ReadError.{ReadError}
 use Rattle.script.specs.declared.rules.ReadError.the-variants.{Size, Shape, Number, Range, Letters, Sequence, Memory}
-
-pub record Refusal : Type 0 where
-  pub number : ℕ
-  pub line : ℕ
+use Rattle.script.specs.declared.rules.Refusal.{Refusal}
 
 abbrev pub refusal : ReadError → Option Refusal
 refusal Size = Some (record { number = 11; line = 0 })
@@ -17,3 +18,7 @@ refusal (Range n) = Some (record { number = 15; line = n })
 refusal (Letters n) = Some (record { number = 16; line = n })
 refusal (Sequence n) = Some (record { number = 17; line = n })
 refusal Memory = None
+
+-- the line that is printed of a refusal
+abbrev pub refusalLine : Refusal → List ℕ
+refusalLine q = line (codes "refused" ∷ decimal (q .number) ∷ decimal (q .line) ∷ [])

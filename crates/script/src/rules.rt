@@ -21,6 +21,13 @@ pub struct Rule {
     pub acts: Vec<Act>,
 }
 
+/// The number of a refusal and the line that it names.
+#[derive(Clone, Copy)]
+pub struct Refusal {
+    pub number: u8,
+    pub line: u16,
+}
+
 /// Why no script was read. All but the first and the last name the line, counted from 1.
 #[derive(Clone, Copy)]
 pub enum ReadError {

@@ -16,5 +16,5 @@ pub struct Script {
     pub marks: Vec<u8>,
     pub goals: Vec<u8>,
     pub rules: Vec<Rule>,
-    ghost keeps_its_rules: { sound (contentOf states width depth start (vec-items marks) (vec-items goals) (vec-items rules)) ≡ true },
+    ghost lawful: { sound (contentOf states width depth start (vec-items marks) (vec-items goals) (vec-items rules)) ≡ true },
 }
