@@ -1,3 +1,5 @@
 pub mod Answers
+pub mod Buffers
 pub mod Meanings
 pub mod Places
+pub mod Rewriting

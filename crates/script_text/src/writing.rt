@@ -6,10 +6,14 @@ ghost use Rattle.script.specs.Reading.{reading};
 ghost use Rattle.script.specs.Scripts.{content};
 ghost use Rattle.script.specs.Tables.{line};
 ghost use Rattle.script.specs.Texts.{actText, actsText, goalRow, headRow, ruleRow, startRow, text};
+ghost use Rattle.script_text.specs.Buffers.{Written};
 ghost use Rattle.std.specs.Joined.{joined};
 ghost use Rattle.std.specs.Of.Vec.{vec-items};
 ghost use Rattle.std.specs.Vec.{made};
 ghost use Rattle.std.specs.declared.result.Result.the-variants.{Ok};
+use crate::buffers::WriteError;
+use crate::buffers::WriteErrorFromAlloc;
+use crate::buffers::copy_whole;
 use script::Act;
 use script::Rule;
 use script::Script;
@@ -100,4 +104,12 @@ pub fn render(heap: Global, script: &Script) -> Result<Vec<u8>, AllocError>
     put_goals(heap, &mut out, script.goals.as_slice())?;
     put_rules(heap, &mut out, script.rules.as_slice())?;
     Ok(out)
+}
+
+/// Writes the text of the script into the buffer and answers how many bytes it has.
+pub fn write(script: &Script, heap: Global, buffer: &mut [u8]) -> Result<usize, WriteError>
+    ensures { λ r. ⌜ Written (text (content (now (script .entry)))) (now (buffer .entry)) (now (buffer .exit)) r ⌝ }
+{
+    let text = render(heap, script)?;
+    copy_whole(text.as_slice(), buffer)
 }
