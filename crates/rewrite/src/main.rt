@@ -1,7 +1,7 @@
 // Reads a script text from standard input and writes it back, or the line that says why it is refused.
-use script_text::LONGEST;
-use script_text::WriteError;
-use script_text::rewrite;
+use rewriting::rewrite;
+use script_reader::LONGEST;
+use script_writer::WriteError;
 use std::error::AnyError;
 use std::io::Read;
 use std::io::Write;

@@ -1,6 +1,6 @@
 // Rewrites each of the texts that cases.txt names, and says of each whether the answer is the one that is due.
-use script_text::LONGEST;
-use script_text::rewrite;
+use rewriting::rewrite;
+use script_reader::LONGEST;
 use std::error::AnyError;
 use std::fs;
 

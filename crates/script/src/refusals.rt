@@ -1,6 +1,7 @@
-// The numbers of refusals, and the line that is printed of one.
+// The numbers of refusals, and what is printed of one.
 ghost use mathlib.Core.Path.{_≡_};
-ghost use Rattle.script.specs.Refusals.{refusal, refusalLine};
+ghost use Rattle.script.specs.Refusals.{refusal, refusalRow};
+ghost use Rattle.script.specs.Tables.{join};
 ghost use Rattle.std.specs.declared.option.Option.the-variants.{Some};
 use crate::rules::ReadError;
 use crate::rules::Refusal;
@@ -27,11 +28,11 @@ impl ReadError {
 }
 
 pub impl fmt::Display for Refusal as RefusalDisplay {
-    ghost shown = { λ q. Some (refusalLine q) };
+    ghost shown = { λ q. Some (join 9 (refusalRow q)) };
 
     fn fmt<W: fmt::Write>(&self, f: &mut fmt::Formatter<W>) -> fmt::Result {
         let number = self.number;
         let line = self.line;
-        write!(f, "refused\t{number}\t{line}\n")
+        write!(f, "refused\t{number}\t{line}")
     }
 }

@@ -1,7 +1,0 @@
-use borrow.Author.Needs.{needs}
-use mathlib.Core.Path.{_∙_}
-use Rattle.script_text.proofs.Tables.{ended-table}
-use Rattle.script_text.proofs.reader.Reader.at_end.Needs as need
-
-pub returns : need.returns
-returns c = c .is-empty .ensures ∙ ended-table (c .args .self .now .rest .now)

@@ -1,6 +1,0 @@
-use borrow.Author.Needs.{needs}
-use Rattle.script_text.proofs.Tables.{first-row}
-use Rattle.script_text.proofs.reader.Reader.begins.Needs as need
-
-pub returns : need.returns
-returns c = rw (first-row (c .args .self .now .rest .now)) (search needs)
