@@ -6,7 +6,6 @@ use Prim.Native.Nat.{ℕ}
 use lib.ListN.{length}
 use Rattle.script.proofs.Laws.{accepted-is-text, text-is-accepted}
 use Rattle.script.proofs.Outcomes.{not-ok}
-use Rattle.script.specs.Contents.{Content}
 use Rattle.script.specs.Reading.{readRows, reading}
 use Rattle.script.specs.Scripts.{content}
 use Rattle.script.specs.Soundness.{within}

@@ -1,14 +1,13 @@
--- One line more of goals or of rules, and where they end.
-use mathlib.Core.Bool.{Bool, true, false, cond, _&&_}
+-- One line more of goals or of rules, and where the goals end.
+use mathlib.Core.Bool.{true, false}
 use mathlib.Core.List.{List, [], _∷_, _++_, map}
-use mathlib.Core.Path.{_≡_, refl, sym, ap, _∙_}
-use native.Mathlib.Omega.{arith}
+use mathlib.Core.Path.{_≡_, refl}
 use Prim.Native.Nat.{ℕ, _+_}
 use lib.Chars.{codes}
 use lib.ListN.{length, getD, drop}
-use Rattle.script.specs.Contents.{RuleContent, ruleContent}
-use Rattle.script.specs.Fields.{_>>=_, field}
-use Rattle.script.specs.Reading.{Goals, due, goalOf, goalsOn, ruleOf, rulesOn}
+use Rattle.script.specs.Contents.{ruleContent}
+use Rattle.script.specs.Fields.{field}
+use Rattle.script.specs.Reading.{due, goalOf, goalsOn, ruleOf, rulesOn}
 use Rattle.script.specs.Tables.{Row}
 use Rattle.script.specs.declared.rules.Rule.{Rule}
 use Rattle.script.specs.declared.rules.ReadError.{ReadError}
@@ -17,7 +16,6 @@ use Rattle.script.proofs.Outcomes.{not-ok}
 use Rattle.script_reader.specs.Places.{ended}
 use Rattle.std.proofs.shelf.Lists.{length-map, map-push}
 use Rattle.std.proofs.shelf.Tests.{false≢true}
-use Rattle.std.specs.declared.result.Result.{Result}
 use Rattle.std.specs.declared.result.Result.the-variants.{Ok, Err}
 use Rattle.std.specs.shelf.Text.{sameBytes}
 
@@ -41,8 +39,3 @@ unfolding ruleOf due
 rules-refused n states done [] e more no-rule = cc
 rules-refused n states done (row ∷ []) e more no-rule = rw more (cc)
 rules-refused n states done (row ∷ next ∷ rows) e more no-rule = rw (length-map done ruleContent, no-rule)
-
-pub rules-end : (n states : ℕ) (done : List RuleContent) (rows : List Row) → ended rows ≡ true → rulesOn n states done rows ≡ Ok done
-rules-end n states done [] end = absurd (false≢true end)
-rules-end n states done (row ∷ []) end = rw end
-rules-end n states done (row ∷ next ∷ rows) end = absurd (false≢true end)

@@ -1,9 +1,9 @@
 -- The first row of a text and the rows behind it, by where the text is cut.
-use mathlib.Core.Bool.{Bool, true, false, cond, _&&_}
+use mathlib.Core.Bool.{Bool, true, false, cond}
 use mathlib.Core.List.{List, [], _∷_, map}
 use mathlib.Core.Path.{_≡_, refl, sym, ap, _∙_}
 use native.Mathlib.Omega.{arith}
-use Prim.Native.Nat.{ℕ, _+_, _<_}
+use Prim.Native.Nat.{ℕ, _<_}
 use lib.Dec.{eqb}
 use lib.ListN.{length, getD, drop}
 use Rattle.script.specs.Fields.{_>>=_, ask}
@@ -37,7 +37,7 @@ map-some : (ps : List (List ℕ)) → 0 < length ps → 0 < length (map (parts 9
 map-some [] h = absurd (omega arith)
 map-some (p ∷ ps) h = omega arith
 
-pub table-some : (t : List ℕ) → 0 < length (table t)
+table-some : (t : List ℕ) → 0 < length (table t)
 unfolding table
 table-some t = map-some (parts 10 t) (parts-some 10 t)
 

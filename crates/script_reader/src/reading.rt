@@ -7,7 +7,6 @@ ghost use Rattle.script.specs.Reading.{goalsOn, readRows, reading, rulesOn};
 ghost use Rattle.script_reader.specs.Answers.{Answers, Exact, Replaced};
 ghost use Rattle.script_reader.specs.Meanings.{goalsMeaning};
 ghost use Rattle.script_reader.specs.Places.{rowsLeft};
-ghost use Rattle.std.specs.Of.Vec.{vec-items};
 use crate::lines::read_goal;
 use crate::lines::read_head;
 use crate::lines::read_rule;

@@ -1,6 +1,4 @@
 // From field to field of a line.
-ghost use lib.ListN.{length, getD, drop};
-ghost use mathlib.Core.List.{[]};
 ghost use mathlib.Core.Path.{_≡_};
 ghost use Rattle.script.specs.Fields.{field, numberIn, numeralIn, stateIn, marksIn, actsIn};
 ghost use Rattle.script_reader.specs.Answers.{Answers};

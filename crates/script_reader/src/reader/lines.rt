@@ -1,6 +1,5 @@
 // From line to line.
-ghost use lib.ListN.{length, getD, drop};
-ghost use mathlib.Core.List.{[], _∷_};
+ghost use lib.ListN.{length};
 ghost use mathlib.Core.Path.{_≡_};
 ghost use Prim.Native.Nat.{_+_, _≤_};
 ghost use Rattle.script.specs.Fields.{field};

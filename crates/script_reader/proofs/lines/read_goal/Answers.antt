@@ -1,5 +1,4 @@
 use borrow.Author.Needs.{needs}
-use native.Mathlib.Omega.{arith}
 use Rattle.script.specs.Reading.{goalOf}
 use Rattle.std.proofs.shelf.Lists.{getD-drop}
 use Rattle.script_reader.proofs.lines.read_goal.Needs as need

@@ -2,7 +2,7 @@ use borrow.Author.Needs.{needs}
 use mathlib.Core.Path.{sym, _∙_}
 use Prim.Native.Nat.{_+_}
 use Rattle.script_reader.specs.Places.{rowsLeft}
-use Rattle.script_reader.proofs.Following.{rules-more, rules-refused, rules-end}
+use Rattle.script_reader.proofs.Following.{rules-more, rules-refused}
 use Rattle.script_reader.proofs.Refusing.{refuses}
 use Rattle.std.specs.Of.Vec.{vec-items}
 use Rattle.script_reader.proofs.reading.read_rules.Needs as need

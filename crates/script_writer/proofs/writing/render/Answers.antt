@@ -1,5 +1,5 @@
 use borrow.Author.Needs.{needs}
-use mathlib.Core.Path.{_≡_, sym, ap, _∙_}
+use mathlib.Core.Path.{_≡_, ap, _∙_}
 use Rattle.script.proofs.Laws.{text-is-accepted}
 use Rattle.script.specs.Reading.{reading}
 use Rattle.script.specs.Scripts.{content}

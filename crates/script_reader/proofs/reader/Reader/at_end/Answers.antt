@@ -1,4 +1,3 @@
-use borrow.Author.Needs.{needs}
 use mathlib.Core.Path.{_∙_}
 use Rattle.script_reader.proofs.Tables.{ended-table}
 use Rattle.script_reader.proofs.reader.Reader.at_end.Needs as need
