@@ -15,8 +15,14 @@ abbrev pub writeNumber : WriteError → Option ℕ
 writeNumber Short = Some 32
 writeNumber Memory = None
 
--- the whole stands in front, and what lies behind it is as it was; or the buffer is as it was
+-- the whole stands in front, and what lies behind it is as it was; or the buffer is too short, and as it was
+abbrev pub Copied : List ℕ → List ℕ → List ℕ → Result ℕ WriteError → Type 0
+Copied whole before after (Ok count) = (count ≡ length whole) × (after ≡ whole ++ drop count before)
+Copied whole before after (Err Short) = (length before < length whole) × (after ≡ before)
+Copied whole before after (Err Memory) = ⊥
+
+-- the same, or there was no memory to make the text, and the buffer is as it was
 abbrev pub Written : List ℕ → List ℕ → List ℕ → Result ℕ WriteError → Type 0
-Written whole before after (Ok count) = (count ≡ length whole) × (after ≡ whole ++ drop count before)
-Written whole before after (Err Short) = (length before < length whole) × (after ≡ before)
+Written whole before after (Ok count) = Copied whole before after (Ok count)
+Written whole before after (Err Short) = Copied whole before after (Err Short)
 Written whole before after (Err Memory) = after ≡ before

@@ -1,6 +1,6 @@
 // The whole of a text, or nothing of it.
 ghost use mathlib.Core.Path.{_≡_};
-ghost use Rattle.script_writer.specs.Buffers.{Written, writeNumber};
+ghost use Rattle.script_writer.specs.Buffers.{Copied, writeNumber};
 use super::WriteError;
 
 impl WriteError {
@@ -17,7 +17,7 @@ impl WriteError {
 
 /// Copies the bytes to the front of the buffer and answers how many there are.
 pub fn copy_whole(bytes: &[u8], buffer: &mut [u8]) -> Result<usize, WriteError>
-    ensures { λ r. ⌜ Written (now (bytes .entry)) (now (buffer .entry)) (now (buffer .exit)) r ⌝ }
+    ensures { λ r. ⌜ Copied (now (bytes .entry)) (now (buffer .entry)) (now (buffer .exit)) r ⌝ }
 {
     let count = bytes.len();
     if count > buffer.len() {
