@@ -1,5 +1,6 @@
--- Acts that are taken from a field two bytes at a time.
-use mathlib.Core.List.{List, [], _∷_, _++_}
+-- The acts of a field: a letter and a mark, and then the acts behind them.
+use mathlib.Core.Bool.{true}
+use mathlib.Core.List.{List, [], _∷_}
 use mathlib.Core.Path.{_≡_, refl, sym, ap, _∙_}
 use native.Mathlib.Omega.{arith}
 use Prim.Native.Nat.{ℕ, suc, _*_, _-_, _<_, _≤_}
@@ -9,30 +10,39 @@ use Rattle.script.specs.Fields.{_>>=_, _>>_, ask, actOf, acts, actsIn, before}
 use Rattle.script.specs.declared.rules.Act.{Act}
 use Rattle.script.specs.declared.rules.ReadError.{ReadError}
 use Rattle.script.specs.declared.rules.ReadError.the-variants.{Letters}
-use Rattle.std.proofs.shelf.Lists.{append-assoc, append-nil, take-all}
+use Rattle.std.proofs.shelf.Lists.{take-all}
 use Rattle.std.proofs.shelf.Tests.{le-leb, lt-leb}
-use Rattle.std.specs.Options.{okOr}
+use Rattle.std.specs.Options.{isSome, okOr}
+use Rattle.std.specs.Results.{isOk}
 use Rattle.std.specs.declared.option.Option.{Option}
 use Rattle.std.specs.declared.option.Option.the-variants.{None, Some}
 use Rattle.std.specs.declared.result.Result.{Result}
 use Rattle.std.specs.declared.result.Result.the-variants.{Ok, Err}
 
--- the acts behind those that are taken
-abbrev pub behind : List Act → Option (List Act) → Option (List Act)
-behind taken None = None
-behind taken (Some more) = Some (taken ++ more)
-
-behind-before : (taken : List Act) (a : Act) (o : Option (List Act)) → behind (taken ++ a ∷ []) o ≡ behind taken (before (Some a) o)
-behind-before taken a None = refl
-behind-before taken a (Some more) = ap Some (append-assoc taken (a ∷ []) more)
-
--- what is left behind a letter and its mark
-pub two : (taken : List Act) (f : List ℕ) (a : Act) → 2 ≤ length f → actOf (getD f 0 0) (getD f 1 0) ≡ Some a → behind (taken ++ a ∷ []) (acts (take (length f - 2) (drop 2 f))) ≡ behind taken (acts f)
-two taken [] a h e = absurd (omega arith)
-two taken (l ∷ []) a h e = absurd (omega arith)
-two taken (l ∷ m ∷ rest) a h e =
+-- a letter and its mark, and the acts behind them
+first-act : (f : List ℕ) (a : Act) → 2 ≤ length f → actOf (getD f 0 0) (getD f 1 0) ≡ Some a → acts f ≡ before (Some a) (acts (take (length f - 2) (drop 2 f)))
+first-act [] a h e = absurd (omega arith)
+first-act (l ∷ []) a h e = absurd (omega arith)
+first-act (l ∷ m ∷ rest) a h e =
     let fits : length rest ≤ length (l ∷ m ∷ rest) - 2 = omega arith in
-    rw (take-all (length (l ∷ m ∷ rest) - 2) rest fits, e) (behind-before taken a (acts rest))
+    rw (take-all (length (l ∷ m ∷ rest) - 2) rest fits, e)
+
+module _ (f : List ℕ) (a : Act) (two : 2 ≤ length f) (is : actOf (getD f 0 0) (getD f 1 0) ≡ Some a) where
+  abbrev behind : List ℕ
+  behind = take (length f - 2) (drop 2 f)
+
+  pub more-acts : (rest : List Act) → Some rest ≡ acts behind → Some (a ∷ rest) ≡ acts f
+  more-acts rest e = ap (before (Some a)) e ∙ sym (first-act f a two is)
+
+  pub no-more-acts : None ≡ acts behind → None ≡ acts f
+  no-more-acts e = ap (before (Some a)) e ∙ sym (first-act f a two is)
+
+  pub some-acts : isSome (acts behind) ≡ true → isSome (acts f) ≡ true
+  some-acts e = ap isSome (first-act f a two is) ∙ some-before (acts behind) e
+    where
+      some-before : (o : Option (List Act)) → isSome o ≡ true → isSome (before (Some a) o) ≡ true
+      some-before None h = h
+      some-before (Some rest) h = refl
 
 -- two bytes for each act
 abbrev Sized : Option (List Act) → ℕ → Type 0
@@ -56,35 +66,22 @@ few-long : (n : ℕ) (o : Option (List Act)) (size : ℕ) → Sized o size → 8
 few-long n None size h long = refl
 few-long n (Some all) size h long = rw (lt-leb (length all) 4 (omega (arith, h)))
 
-few-short : (n : ℕ) (all : List Act) (size : ℕ) → Sized (Some all) size → size ≤ 8 → few n (Some all) ≡ Ok all
-few-short n all size h short = rw (le-leb (length all) 4 (omega (arith, h)))
+few-short : (n : ℕ) (o : Option (List Act)) (size : ℕ) → Sized o size → size ≤ 8 → few n o ≡ okOr o (Letters n)
+few-short n None size h short = refl
+few-short n (Some all) size h short = rw (le-leb (length all) 4 (omega (arith, h)))
 
 pub long : (n : ℕ) (f : List ℕ) → 8 < length f → actsIn n f ≡ Err (Letters n)
 unfolding actsIn
 long n f h = few-long n (acts f) (length f) (sized f) h
 
--- acts are taken up to the end of the field
-pub whole : (n : ℕ) (f rest : List ℕ) (all : List Act) → length f ≤ 8 → length rest ≡ 0 → behind all (acts rest) ≡ acts f → actsIn n f ≡ Ok all
+-- a field that is short enough is judged by its form alone
+pub short : (n : ℕ) (f : List ℕ) → length f ≤ 8 → actsIn n f ≡ okOr (acts f) (Letters n)
 unfolding actsIn
-whole n f (l ∷ rest) all short end e = absurd (omega arith)
-whole n f [] all short end e =
-    let known : Some all ≡ acts f = ap Some (sym (append-nil all)) ∙ e in
-    let size : Sized (Some all) (length f) = rw (← known) at (sized f) in
-    rw (← known) (few-short n all (length f) size short)
+short n f h = few-short n (acts f) (length f) (sized f) h
 
-broken : (n : ℕ) (f rest : List ℕ) (taken : List Act) → acts rest ≡ None → behind taken (acts rest) ≡ acts f → actsIn n f ≡ Err (Letters n)
-unfolding actsIn
-broken n f rest taken none e =
-    let known : None ≡ acts f = ap (behind taken) (sym none) ∙ e in
-    rw (← known)
+some-ok : (n : ℕ) (o : Option (List Act)) → isSome o ≡ true → isOk (okOr o (Letters n)) ≡ true
+some-ok n None h = h
+some-ok n (Some all) h = refl
 
--- or up to a letter without a mark, or to two bytes that are no act
-pub single : (n : ℕ) (f rest : List ℕ) (taken : List Act) → length rest ≡ 1 → behind taken (acts rest) ≡ acts f → actsIn n f ≡ Err (Letters n)
-single n f [] taken h e = absurd (omega arith)
-single n f (l ∷ []) taken h e = broken n f (l ∷ []) taken refl e
-single n f (l ∷ m ∷ rest) taken h e = absurd (omega arith)
-
-pub unknown : (n : ℕ) (f rest : List ℕ) (taken : List Act) → 2 ≤ length rest → actOf (getD rest 0 0) (getD rest 1 0) ≡ None → behind taken (acts rest) ≡ acts f → actsIn n f ≡ Err (Letters n)
-unknown n f [] taken h none e = absurd (omega arith)
-unknown n f (l ∷ []) taken h none e = absurd (omega arith)
-unknown n f (l ∷ m ∷ rest) taken h none e = broken n f (l ∷ m ∷ rest) taken (rw none) e
+pub short-some : (n : ℕ) (f : List ℕ) → length f ≤ 8 → isSome (acts f) ≡ true → isOk (actsIn n f) ≡ true
+short-some n f h some = ap isOk (short n f h) ∙ some-ok n (acts f) some

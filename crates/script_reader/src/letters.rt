@@ -1,15 +1,14 @@
 // Marks and acts as a text has them.
 ghost use mathlib.Core.Path.{_≡_};
-ghost use Rattle.script.specs.Fields.{actOf, actsIn};
+ghost use mathlib.Core.Bool.{true};
+ghost use Rattle.script.specs.Fields.{actOf, acts};
 ghost use Rattle.script.specs.Soundness.{every, isMark};
-ghost use Rattle.script_reader.specs.Answers.{Answers};
 ghost use Rattle.std.specs.Of.Vec.{vec-items};
+ghost use Rattle.std.specs.Options.{isSome, mapped};
+ghost use Rattle.std.specs.Results.{Cases};
 use script::Act;
-use script::ReadError;
-use script::ReadErrorFromRefused;
+use std::alloc::AllocError;
 use std::alloc::Global;
-
-const MOST_ACTS: usize = 4;
 
 fn is_mark(b: u8) -> bool
     ensures { λ r. ⌜ r ≡ isMark b ⌝ }
@@ -45,27 +44,23 @@ fn act_of(letter: u8, mark: u8) -> Option<Act>
     }
 }
 
-/// The acts of a field of the line: a letter and a mark for each, and at most four of them.
-pub(crate) fn acts_of(heap: Global, field: &[u8], line: u16) -> Result<Vec<Act>, ReadError>
-    ensures { λ r. ⌜ Answers (actsIn line (now (field .entry))) vec-items r ⌝ }
+/// The acts of a field, a letter and a mark for each; none where it is not well formed.
+/// Memory is asked for only once the whole field is known to be well formed.
+pub(crate) fn acts_of(heap: Global, field: &[u8]) -> Result<Option<Vec<Act>>, AllocError>
+    ensures { λ r. ⌜ Cases r (λ o. mapped vec-items o ≡ acts (now (field .entry))) (λ _. isSome (acts (now (field .entry))) ≡ true) ⌝ }
 {
-    let fault = ReadError::Letters(line);
-    if field.len() > 2 * MOST_ACTS {
-        return Err(fault);
-    }
-    let mut acts = Vec::new(heap);
-    let mut rest = field;
-    loop {
-        match rest {
-            [] => return Ok(acts),
-            [letter, mark, tail @ ..] => {
-                let Some(act) = act_of(*letter, *mark) else {
-                    return Err(fault);
-                };
-                acts.push(act)?;
-                rest = tail;
-            }
-            [_] => return Err(fault),
+    match field {
+        [] => Ok(Some(Vec::new(heap))),
+        [letter, mark, rest @ ..] => {
+            let Some(act) = act_of(*letter, *mark) else {
+                return Ok(None);
+            };
+            let Some(mut acts) = acts_of(heap, rest)? else {
+                return Ok(None);
+            };
+            acts.insert(0, act)?;
+            Ok(Some(acts))
         }
+        [_] => Ok(None),
     }
 }

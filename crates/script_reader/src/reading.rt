@@ -4,7 +4,7 @@ ghost use mathlib.Core.Path.{_≡_};
 ghost use Prim.Native.Nat.{_+_};
 ghost use Rattle.script.specs.Scripts.{content, ruleContents};
 ghost use Rattle.script.specs.Reading.{goalsOn, readRows, reading, rulesOn};
-ghost use Rattle.script_reader.specs.Answers.{Answers, Exact, Replaced};
+ghost use Rattle.script_reader.specs.Answers.{Answers, Exact, Replaced, Sized};
 ghost use Rattle.script_reader.specs.Meanings.{goalsMeaning};
 ghost use Rattle.script_reader.specs.Places.{rowsLeft};
 use crate::lines::read_goal;
@@ -69,6 +69,7 @@ fn read_script(heap: Global, mut reader: Reader) -> Result<Script, ReadError>
 pub fn parse(heap: Global, bytes: &[u8]) -> Result<Script, ReadError>
     ensures answer { λ r. ⌜ Answers (reading (now (bytes .entry))) content r ⌝ }
     ensures exact { λ r. ⌜ Exact (now (bytes .entry)) r ⌝ }
+    ensures sized { λ r. ⌜ Sized (now (bytes .entry)) r ⌝ }
 {
     if bytes.is_empty() || bytes.len() > LONGEST {
         return Err(ReadError::Size);

@@ -1,7 +1,7 @@
 // From field to field of a line.
 ghost use mathlib.Core.Path.{_≡_};
 ghost use Rattle.script.specs.Fields.{field, numberIn, numeralIn, stateIn, marksIn, actsIn};
-ghost use Rattle.script_reader.specs.Answers.{Answers};
+ghost use Rattle.script_reader.specs.Answers.{AnswersInFull};
 ghost use Rattle.script_reader.specs.Places.{Passed, fieldsLeft};
 ghost use Rattle.std.specs.Of.Vec.{vec-items};
 use super::Reader;
@@ -13,6 +13,8 @@ use script::Act;
 use script::ReadError;
 use script::ReadErrorFromAlloc;
 use std::alloc::Global;
+
+const MOST_ACTS: usize = 4;
 
 impl<'a> Reader<'a> {
     /// The next field of the line, empty where there is none.
@@ -69,7 +71,7 @@ impl<'a> Reader<'a> {
 
     /// The next field as marks, at most so many.
     pub(crate) fn marks(&mut self, heap: Global, most: u8) -> Result<Vec<u8>, ReadError>
-        ensures value { λ r. ⌜ Answers (marksIn (now (self .entry) .line) most (field 0 (fieldsLeft (now (self .entry))))) vec-items r ⌝ }
+        ensures value { λ r. ⌜ AnswersInFull (marksIn (now (self .entry) .line) most (field 0 (fieldsLeft (now (self .entry))))) vec-items r ⌝ }
         ensures passed { λ _. ⌜ Passed (now (self .entry)) (now (self .exit)) ⌝ }
     {
         let field = self.field();
@@ -81,10 +83,16 @@ impl<'a> Reader<'a> {
 
     /// The next field as acts.
     pub(crate) fn acts(&mut self, heap: Global) -> Result<Vec<Act>, ReadError>
-        ensures value { λ r. ⌜ Answers (actsIn (now (self .entry) .line) (field 0 (fieldsLeft (now (self .entry))))) vec-items r ⌝ }
+        ensures value { λ r. ⌜ AnswersInFull (actsIn (now (self .entry) .line) (field 0 (fieldsLeft (now (self .entry))))) vec-items r ⌝ }
         ensures passed { λ _. ⌜ Passed (now (self .entry)) (now (self .exit)) ⌝ }
     {
         let field = self.field();
-        acts_of(heap, field, self.line)
+        if field.len() > 2 * MOST_ACTS {
+            return Err(ReadError::Letters(self.line));
+        }
+        match acts_of(heap, field)? {
+            Some(acts) => Ok(acts),
+            None => Err(ReadError::Letters(self.line)),
+        }
     }
 }

@@ -20,7 +20,7 @@ pub returns-in-Break-acts : need.returns-in-Break-acts
 unfolding ruleOf
 returns-in-Break-acts c =
     let p = err-from-errBy (c .from-residual-in-Break-acts .result) (c .from-residual-in-Break-acts .ensures .1) in
-    rw (p .1, p .2) (record { value = λ known. search (needs, getD-drop, drop-drop, c .in-Break-acts .ensures tt .value known); onward = tt })
+    rw (p .1, p .2) (record { value = λ known. search (needs, getD-drop, drop-drop, c .in-Break-acts .ensures tt .value .0 known); onward = tt })
 
 pub returns-then-count-ge-MOST-RULES : need.returns-then-count-ge-MOST-RULES
 unfolding ruleOf
