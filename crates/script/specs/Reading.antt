@@ -32,6 +32,7 @@ pub record Head : Type 0 where
   pub width : ℕ
   pub depth : ℕ
 
+-- the line of the whole: its first number is that of the text's form
 unfoldable pub headOf : ℕ → List Row → Result Head ReadError
 headOf n rows = do
   row ← due n (codes "script") 5 rows
@@ -45,6 +46,7 @@ pub record Start : Type 0 where
   pub state : ℕ
   pub marks : List ℕ
 
+-- the line of the start, in a script of so many states and of that width
 unfoldable pub startOf : ℕ → ℕ → ℕ → List Row → Result Start ReadError
 startOf n states width rows = do
   row ← due n (codes "start") 3 rows
@@ -102,6 +104,7 @@ rulesOn n states done (row ∷ []) = ask (blank row) (Shape n) >> Ok done
 rulesOn n states done (row ∷ next ∷ rows) =
     ruleOf n states (length done) (row ∷ next ∷ rows) >>= λ r. rulesOn (n + 1) states (done ++ r ∷ []) (next ∷ rows)
 
+-- the lines in their order
 unfoldable pub readRows : List Row → Result Content ReadError
 readRows rows = do
   head ← headOf 1 rows
@@ -119,5 +122,6 @@ readRows rows = do
         rules = rules;
       })
 
+-- a whole text
 unfoldable pub reading : List ℕ → Result Content ReadError
 reading text = ask (within 1 4096 (length text)) Size >> readRows (table text)
