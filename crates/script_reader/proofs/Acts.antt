@@ -3,10 +3,11 @@ use mathlib.Core.Bool.{true}
 use mathlib.Core.List.{List, [], _∷_}
 use mathlib.Core.Path.{_≡_, refl, sym, ap, _∙_}
 use native.Mathlib.Omega.{arith}
-use Prim.Native.Nat.{ℕ, suc, _*_, _-_, _<_, _≤_}
+use Prim.Native.Nat.{ℕ, _*_, _-_, _<_, _≤_}
 use lib.Dec.{leb}
 use lib.ListN.{length, getD, take, drop}
 use Rattle.script.specs.Fields.{_>>=_, _>>_, ask, actOf, acts, actsIn, before}
+use Rattle.script.proofs.Letters.{acts-is, length-acts}
 use Rattle.script.specs.declared.rules.Act.{Act}
 use Rattle.script.specs.declared.rules.ReadError.{ReadError}
 use Rattle.script.specs.declared.rules.ReadError.the-variants.{Letters}
@@ -45,39 +46,28 @@ module _ (f : List ℕ) (a : Act) (two : 2 ≤ length f) (is : actOf (getD f 0 0
       some-before (Some rest) h = refl
 
 -- two bytes for each act
-abbrev Sized : Option (List Act) → ℕ → Type 0
-Sized None size = Unit {0}
-Sized (Some all) size = size ≡ 2 * length all
-
-sized-before : (x : Option Act) (o : Option (List Act)) (size : ℕ) → Sized o size → Sized (before x o) (suc (suc size))
-sized-before None o size h = tt
-sized-before (Some a) None size h = tt
-sized-before (Some a) (Some all) size h = omega (arith, h)
-
-sized : (f : List ℕ) → Sized (acts f) (length f)
-sized [] = omega arith
-sized (l ∷ []) = tt
-sized (l ∷ m ∷ rest) = sized-before (actOf l m) (acts rest) (length rest) (sized rest)
+sized : (f : List ℕ) (all : List Act) → acts f ≡ Some all → length f ≡ 2 * length all
+sized f all e = ap length (acts-is f all e .0) ∙ length-acts all
 
 abbrev few : ℕ → Option (List Act) → Result (List Act) ReadError
 few n o = okOr o (Letters n) >>= λ all. ask (leb (length all) 4) (Letters n) >> Ok all
 
-few-long : (n : ℕ) (o : Option (List Act)) (size : ℕ) → Sized o size → 8 < size → few n o ≡ Err (Letters n)
-few-long n None size h long = refl
-few-long n (Some all) size h long = rw (lt-leb (length all) 4 (omega (arith, h)))
+few-long : (n : ℕ) (f : List ℕ) (o : Option (List Act)) → acts f ≡ o → 8 < length f → few n o ≡ Err (Letters n)
+few-long n f None e long = refl
+few-long n f (Some all) e long = rw (lt-leb (length all) 4 (omega (arith, sized f all e)))
 
-few-short : (n : ℕ) (o : Option (List Act)) (size : ℕ) → Sized o size → size ≤ 8 → few n o ≡ okOr o (Letters n)
-few-short n None size h short = refl
-few-short n (Some all) size h short = rw (le-leb (length all) 4 (omega (arith, h)))
+few-short : (n : ℕ) (f : List ℕ) (o : Option (List Act)) → acts f ≡ o → length f ≤ 8 → few n o ≡ okOr o (Letters n)
+few-short n f None e short = refl
+few-short n f (Some all) e short = rw (le-leb (length all) 4 (omega (arith, sized f all e)))
 
 pub long : (n : ℕ) (f : List ℕ) → 8 < length f → actsIn n f ≡ Err (Letters n)
 unfolding actsIn
-long n f h = few-long n (acts f) (length f) (sized f) h
+long n f h = few-long n f (acts f) refl h
 
 -- a field that is short enough is judged by its form alone
 pub short : (n : ℕ) (f : List ℕ) → length f ≤ 8 → actsIn n f ≡ okOr (acts f) (Letters n)
 unfolding actsIn
-short n f h = few-short n (acts f) (length f) (sized f) h
+short n f h = few-short n f (acts f) refl h
 
 some-ok : (n : ℕ) (o : Option (List Act)) → isSome o ≡ true → isOk (okOr o (Letters n)) ≡ true
 some-ok n None h = h

@@ -13,6 +13,7 @@ use Rattle.script.specs.declared.rules.ReadError.{ReadError}
 use Rattle.script.specs.declared.rules.ReadError.the-variants.{Shape}
 use Rattle.script.proofs.Parting.{parts-some}
 use Rattle.script_reader.specs.Places.{ended}
+use Rattle.std.proofs.shelf.Lists.{length-map}
 use Rattle.std.proofs.shelf.Tests.{and-left, and-right, cond-false, cond-true, ne-eqb}
 use Rattle.std.specs.declared.result.Result.the-variants.{Ok, Err}
 use Rattle.std.specs.shelf.Text.{sameBytes}
@@ -33,13 +34,9 @@ pub first-row : (t : List ℕ) → getD (table t) 0 [] ≡ parts 9 (getD (parts 
 unfolding table
 first-row t = first-of (parts 10 t) (parts-some 10 t)
 
-map-some : (ps : List (List ℕ)) → 0 < length ps → 0 < length (map (parts 9) ps)
-map-some [] h = absurd (omega arith)
-map-some (p ∷ ps) h = omega arith
-
 table-some : (t : List ℕ) → 0 < length (table t)
 unfolding table
-table-some t = map-some (parts 10 t) (parts-some 10 t)
+table-some t = simp length-map (parts-some 10 t)
 
 -- the last row has no line feed, whatever stands in it
 pub due-last : (n : ℕ) (word : List ℕ) (count : ℕ) (t : List ℕ) → parts 10 t ≡ t ∷ [] → due n word count (table t) ≡ Err (Shape n)
