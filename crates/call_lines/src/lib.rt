@@ -1,4 +1,6 @@
 // Calls on a store as lines of text, and the lines of their answers.
+#![tactic(auto)]
+
 mod answers;
 mod lines;
 

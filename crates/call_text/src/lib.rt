@@ -1,4 +1,6 @@
 // Texts of calls on a store: reading them, and answering them line by line.
+#![tactic(auto)]
+
 mod answering;
 mod errors;
 mod parsing;

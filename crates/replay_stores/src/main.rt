@@ -1,4 +1,6 @@
 // Reads a text of calls from standard input, carries them out on a store, and answers each line by a line.
+#![tactic(auto)]
+
 ghost use Rattle.call_text.specs.Reports.{Told};
 ghost use Rattle.std.specs.Prelude.{IfOk};
 

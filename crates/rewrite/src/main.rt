@@ -1,4 +1,6 @@
 // Reads a script text from standard input and writes it back, or the line that says why it is refused.
+#![tactic(auto)]
+
 use anyhow::anyhow;
 use rewriting::rewrite;
 use script_reader::LONGEST;

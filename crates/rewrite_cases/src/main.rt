@@ -1,4 +1,6 @@
 // Rewrites each of the texts that cases.txt names, and says of each whether the answer is the one that is due.
+#![tactic(auto)]
+
 use rewriting::rewrite;
 use script_reader::LONGEST;
 use std::fs;

@@ -1,4 +1,6 @@
 // A text that is read and written back.
+#![tactic(auto)]
+
 ghost use Rattle.script.specs.Reading.{reading};
 ghost use Rattle.script.specs.Refusals.{refusal_row};
 ghost use Rattle.script.specs.Tables.{line};

@@ -1,4 +1,6 @@
 // Packing-line scripts: what a script is, what its text is, and how a text is read.
+#![tactic(auto)]
+
 mod refusals;
 mod rules;
 mod scripts;

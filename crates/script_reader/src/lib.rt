@@ -1,4 +1,6 @@
 // Reading script texts.
+#![tactic(auto)]
+
 mod letters;
 mod lines;
 mod numbers;

@@ -1,4 +1,6 @@
 // Writing script texts.
+#![tactic(auto)]
+
 mod buffers;
 mod writing;
 

@@ -1,4 +1,6 @@
 // Stores of deque versions: what every kind of store shares, proved once.
+#![tactic(auto)]
+
 mod calls;
 mod changes;
 mod deque_store;

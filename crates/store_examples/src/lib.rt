@@ -1,4 +1,6 @@
 // How a reservation is used, over any store.
+#![tactic(auto)]
+
 ghost use Rattle.store_examples.specs.Examples.{PushedReserved};
 ghost use Rattle.std.specs.Prelude.{OnOk};
 ghost use Rattle.store.specs.declared.changes.Change.TheVariants.{Push};

@@ -1,4 +1,6 @@
 // Why a call on a store is refused, and the number of each refusal.
+#![tactic(auto)]
+
 mod faults;
 mod refusals;
 

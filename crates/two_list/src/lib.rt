@@ -1,4 +1,6 @@
 // The two-list kind of store: versions that are pairs of lists, in tables that a caller lends.
+#![tactic(auto)]
+
 mod kind;
 mod opening;
 mod reading;
