@@ -9,9 +9,9 @@ use Rattle.script_reader.proofs.Exactly.{exactly, read_size, refused_size, size_
 use Rattle.std.proofs.lemmas.Bool.Decides.{nat_tests}
 use Rattle.script_reader.proofs.reading.parse.Goals as goal
 
-pub returns-then-is-empty : goal.returns-then-is-empty
-returns-then-is-empty c =
-    let outside : within 1 4096 (length c.args.bytes.now) ≡ false = grind (arith, nat_tests, c.is-empty.ensures, c.then-is-empty.either) in
+pub returns-then-is_empty : goal.returns-then-is_empty
+returns-then-is_empty c =
+    let outside : within 1 4096 (length c.args.bytes.now) ≡ false = grind (arith, nat_tests, c.is_empty.ensures, c.then-is_empty.either) in
     let refused = refused_size c.args.bytes.now outside in
     record {
       answer = λ _. refused;
@@ -21,11 +21,11 @@ returns-then-is-empty c =
 
 pub returns : goal.returns
 returns c =
-    let inside : within 1 4096 (length c.args.bytes.now) ≡ true = grind (arith, nat_tests, c.is-empty.ensures, c.if-is-empty.false, c.if-bytes-gt-LONGEST.false) in
+    let inside : within 1 4096 (length c.args.bytes.now) ≡ true = grind (arith, nat_tests, c.is_empty.ensures, c.if-is_empty.false, c.if-bytes-gt-LONGEST.false) in
     let is : read_rows (rows_left c.new.result) ≡ reading c.args.bytes.now = cc (read_size c.args.bytes.now inside, c.new.ensures.rows) in
-    let answer : Answers (reading c.args.bytes.now) content c.read-script.result = rw is at c.read-script.ensures in
+    let answer : Answers (reading c.args.bytes.now) content c.read_script.result = rw is at c.read_script.ensures in
     record {
       answer = answer;
-      exact = exactly c.args.bytes.now c.read-script.result answer;
-      sized = size_is_right c.args.bytes.now c.read-script.result inside;
+      exact = exactly c.args.bytes.now c.read_script.result answer;
+      sized = size_is_right c.args.bytes.now c.read_script.result inside;
     }

@@ -7,33 +7,33 @@ use Rattle.script_reader.proofs.Refusing.{refuses}
 use Rattle.std.proofs.lemmas.List.{drop-drop}
 use Rattle.script_reader.proofs.reading.read_script.Goals as goal
 
-pub returns-in-err-head : goal.returns-in-err-head
+pub returns-in_err-head : goal.returns-in_err-head
 unfolding read_rows
-returns-in-err-head c =
-    refuses _ _ c.from-residual.result c.in-err-head.field-0.0 c.from-residual.ensures.1 (λ known. search (rules, drop-drop, c.in-err-head.ensures.value known))
+returns-in_err-head c =
+    refuses _ _ c.from_residual.result c.in_err-head.field-0.0 c.from_residual.ensures.1 (λ known. search (rules, drop-drop, c.in_err-head.ensures.value known))
 
-pub returns-in-err-start : goal.returns-in-err-start
+pub returns-in_err-start : goal.returns-in_err-start
 unfolding read_rows
-returns-in-err-start c =
-    refuses _ _ c.from-residual-in-err-start.result c.in-err-start.field-0.0 c.from-residual-in-err-start.ensures.1 (λ known. search (rules, drop-drop, c.in-err-start.ensures.value known))
+returns-in_err-start c =
+    refuses _ _ c.from_residual-in_err-start.result c.in_err-start.field-0.0 c.from_residual-in_err-start.ensures.1 (λ known. search (rules, drop-drop, c.in_err-start.ensures.value known))
 
-pub returns-in-err-goals : goal.returns-in-err-goals
+pub returns-in_err-goals : goal.returns-in_err-goals
 unfolding read_rows
-returns-in-err-goals c =
-    refuses _ _ c.from-residual-in-err-goals.result c.in-err-goals.field-0.0 c.from-residual-in-err-goals.ensures.1 (λ known. search (rules, drop-drop, c.in-err-goals.ensures known))
+returns-in_err-goals c =
+    refuses _ _ c.from_residual-in_err-goals.result c.in_err-goals.field-0.0 c.from_residual-in_err-goals.ensures.1 (λ known. search (rules, drop-drop, c.in_err-goals.ensures known))
 
-pub returns-in-err-rules : goal.returns-in-err-rules
+pub returns-in_err-rules : goal.returns-in_err-rules
 unfolding read_rows
-returns-in-err-rules c =
-    refuses _ _ c.from-residual-in-err-rules.result c.in-err-rules.field-0.0 c.from-residual-in-err-rules.ensures.1 (λ known. search (rules, drop-drop, c.in-err-rules.ensures known))
+returns-in_err-rules c =
+    refuses _ _ c.from_residual-in_err-rules.result c.in_err-rules.field-0.0 c.from_residual-in_err-rules.ensures.1 (λ known. search (rules, drop-drop, c.in_err-rules.ensures known))
 
-pub invariant-of-result : goal.invariant-of-result
+pub invariant_of-result : goal.invariant_of-result
 unfolding read_rows
-invariant-of-result c =
-    let head = c.in-ok-head.head in
-    let start = c.in-ok-start.start in
-    let all = content_of head.states head.width head.depth start.state (vec_items start.marks) (vec_items c.in-ok-goals.goals) (vec_items c.in-ok-rules.rules) in
-    (rows_sound (rows_left c.args.reader) all (search (rules, drop-drop)), tt)
+invariant_of-result c =
+    let head = c.in_ok-head.head in
+    let start = c.in_ok-start.start in
+    let all = content_of head.states head.width head.depth start.state (vec_items start.marks) (vec_items c.in_ok-goals.goals) (vec_items c.in_ok-rules.rules) in
+    record { lawful = rows_sound (rows_left c.args.reader) all (search (rules, drop-drop)) }
 
 pub returns : goal.returns
 unfolding read_rows

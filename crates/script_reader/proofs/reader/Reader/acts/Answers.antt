@@ -6,10 +6,10 @@ use Rattle.script_reader.proofs.reader.Reader.acts.Goals as goal
 pub returns-then-field : goal.returns-then-field
 returns-then-field c = search (rules, long)
 
-pub returns-in-err-acts : goal.returns-in-err-acts
-returns-in-err-acts c =
+pub returns-in_err-acts : goal.returns-in_err-acts
+returns-in_err-acts c =
     record {
-      value = wants _ _ c.from-residual.result c.from-residual.ensures.1 (search (rules, short_some));
+      value = wants _ _ c.from_residual.result c.from_residual.ensures.1 (search (rules, short_some));
       passed = c.field-field.ensures.passed;
     }
 
