@@ -1,11 +1,13 @@
 -- A text that grows by what each element of a list is written as.
-use Rattle.std.proofs.Common.{◌≡◌, ℕ, ◌+◌, ◌<◌, ◌≤◌, List, [], ◌∷◌, ◌++◌, map, length, get_or, take, vec_items, sym, refl, ap, ◌∙◌, append_assoc}
+use Rattle.std.proofs.Common.{◌≡◌, ℕ, ◌+◌, ◌<◌, ◌≤◌, List, [], ◌∷◌, ◌++◌, map, length, get_or, take, vec_items, sym, ap, ◌∙◌, append_assoc}
 use Rattle.script.specs.Contents.{rule_content}
 use Rattle.script.specs.Scripts.{content}
 use Rattle.script.specs.Tables.{line}
 use Rattle.script.specs.Texts.{goal_row, head_row, rule_row, start_row, text}
 use Rattle.script.specs.declared.scripts.Script.{Script}
+use Rattle.std.proofs.lemmas.Grind.{flat_map-append}
 use Rattle.std.proofs.lemmas.List.{flat_map_more, take_more, take_all}
+use Rattle.std.proofs.lemmas.List.Folds.{flat_map-map}
 use Rattle.std.specs.List.{flat_map}
 
 -- a text that was grown by the element at i
@@ -20,14 +22,6 @@ grown f before text after xs i x h is so_far e =
 pub all_grown : {X : Type 0} (f : X → List ℕ) (before text : List ℕ) (xs : List X) (i : ℕ) → length xs ≤ i → text ≡ before ++ flat_map f (take i xs) → text ≡ before ++ flat_map f xs
 all_grown f before text xs i h so_far = so_far ∙ ap (λ ys. before ++ flat_map f ys) (take_all i xs h)
 
-joined_append : {X : Type 0} (f : X → List ℕ) (xs ys : List X) → flat_map f (xs ++ ys) ≡ flat_map f xs ++ flat_map f ys
-joined_append f [] ys = refl
-joined_append f (x ∷ xs) ys = ap (λ t. f x ++ t) (joined_append f xs ys) ∙ sym (append_assoc (f x) (flat_map f xs) (flat_map f ys))
-
-joined_map : {X Y : Type 0} (f : Y → List ℕ) (g : X → Y) (xs : List X) → flat_map f (map g xs) ≡ flat_map (λ x. f (g x)) xs
-joined_map f g [] = refl
-joined_map f g (x ∷ xs) = ap (λ t. f (g x) ++ t) (joined_map f g xs)
-
 regroup : (a b c d : List ℕ) → a ++ (b ++ (c ++ d)) ≡ [] ++ a ++ b ++ c ++ d
 regroup a b c d = simp append_assoc
 
@@ -38,7 +32,7 @@ by_lines s =
     let goals = vec_items s.goals in
     let rules = vec_items s.rules in
     let behind : flat_map line (map goal_row goals ++ map rule_row (map rule_content rules)) ≡ flat_map (λ g. line (goal_row g)) goals ++ flat_map (λ r. line (rule_row (rule_content r))) rules =
-    cc (joined_append line (map goal_row goals) (map rule_row (map rule_content rules)), joined_map line goal_row goals, joined_map line rule_row (map rule_content rules), joined_map (λ r. line (rule_row r)) rule_content rules)
+    cc (flat_map-append line (map goal_row goals) (map rule_row (map rule_content rules)), flat_map-map line goal_row goals, flat_map-map line rule_row (map rule_content rules), flat_map-map (λ r. line (rule_row r)) rule_content rules)
     in
     ap (λ t. line (head_row (content s)) ++ (line (start_row (content s)) ++ t)) behind
     ∙ regroup (line (head_row (content s))) (line (start_row (content s))) (flat_map (λ g. line (goal_row g)) goals) (flat_map (λ r. line (rule_row (rule_content r))) rules)

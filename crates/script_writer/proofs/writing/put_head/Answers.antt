@@ -9,5 +9,5 @@ head_text s w d = rw (decimal_digit 1 (lit< tt)) (simp append_assoc)
 pub returns : goal.returns
 returns c =
     let s = c.args.script.now in
-    let added : vec_items c.extend-from-slice.new.self ≡ vec_items c.args.out.now ++ (codes "script\t1\t" ++ (decimal s.states ++ (9 ∷ (decimal s.width ++ (9 ∷ (decimal s.depth ++ 10 ∷ [])))))) = search rules in
+    let added : vec_items c.extend_from_slice.new.self ≡ vec_items c.args.out.now ++ (codes "script\t1\t" ++ (decimal s.states ++ (9 ∷ (decimal s.width ++ (9 ∷ (decimal s.depth ++ 10 ∷ [])))))) = search rules in
     added ∙ ap (λ t. vec_items c.args.out.now ++ t) (head_text s.states s.width s.depth)

@@ -9,5 +9,5 @@ use Rattle.script_writer.proofs.writing.render.Goals as goal
 pub returns : goal.returns
 returns c =
     let s = c.args.script.now in
-    let written : vec_items c.put-rules.new.out ≡ text (content s) = search (rules, by_lines s) in
+    let written : vec_items c.put_rules.new.out ≡ text (content s) = search (rules, by_lines s) in
     record { written = written; accepted = ap reading written ∙ text_is_accepted (content s) s.lawful }
