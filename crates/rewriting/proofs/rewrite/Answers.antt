@@ -11,9 +11,9 @@ returns-in-Some c =
     let known = numbered e q c.in-Some.ensures in
     let line = refused_line (reading c.args.bytes.now) e q c.in-Some.ensures (c.in-Err.ensures.answer known) in
     record {
-      answer = subst (λ (whole : List ℕ). Written whole c.args.buffer.now c.write-refusal.new.buffer c.write-refusal.result) line c.write-refusal.ensures;
+      answer = subst (λ (whole : List ℕ). Written whole c.args.buffer.now c.write_refusal.new.buffer c.write_refusal.result) line c.write_refusal.ensures;
       kept = record {
         same = λ is. absurd (c.in-Err.ensures.exact known is.0 is.1 is.2);
-        other = λ _. (q, c.write-refusal.ensures);
+        other = λ _. (q, c.write_refusal.ensures);
       };
     }
