@@ -43,7 +43,7 @@ fn item_answer<T: Copy>(item: Result<Option<T>, Fault>) -> Answer<T>
 }
 
 fn ask<T: Copy, S: DequeStore<T>>(store: &S, question: Question) -> Answer<T>
-    ensures { reply_of result ≡ answer_to (meaning store.now) question }
+    ensures { reply_of result ≡ answer_to (S.meaning store.now) question }
 {
     match question {
         Question::Longest => Answer::Value(store.longest() as u32),
@@ -66,8 +66,8 @@ fn make<T: Copy, S: DequeStore<T>>(
     version: u16,
     change: Change<T>,
 ) -> Answer<T>
-    ensures answer { Answered (meaning store.old) slots.old (Make version change) (meaning store.new) slots.new result }
-    ensures kind { Carries goes grows store.old (Make version change) (accepted result) store.new }
+    ensures answer { Answered (S.meaning store.old) slots.old (Make version change) (S.meaning store.new) slots.new result }
+    ensures kind { Carries S.goes S.grows store.old (Make version change) (accepted result) store.new }
 {
     match store.change(version, &change) {
         Ok((made, item)) => Answer::Made(made, item),
@@ -92,8 +92,8 @@ fn make_under<T: Copy, S: DequeStore<T>>(
     version: u16,
     change: Change<T>,
 ) -> Answer<T>
-    ensures answer { Answered (meaning store.old) slots.old (MakeUnder slot version change) (meaning store.new) slots.new result }
-    ensures kind { Carries goes grows store.old (MakeUnder slot version change) (accepted result) store.new }
+    ensures answer { Answered (S.meaning store.old) slots.old (MakeUnder slot version change) (S.meaning store.new) slots.new result }
+    ensures kind { Carries S.goes S.grows store.old (MakeUnder slot version change) (accepted result) store.new }
 {
     let Some(held) = held_in(slots, slot) else {
         return Answer::NoSlot;
@@ -116,8 +116,8 @@ fn reserve<T: Copy, S: DequeStore<T>>(
     slot: u8,
     count: u16,
 ) -> Answer<T>
-    ensures answer { Answered (meaning store.old) slots.old (Reserve slot count) (meaning store.new) slots.new result }
-    ensures kind { Carries goes grows store.old (Reserve slot count) (accepted result) store.new }
+    ensures answer { Answered (S.meaning store.old) slots.old (Reserve slot count) (S.meaning store.new) slots.new result }
+    ensures kind { Carries S.goes S.grows store.old (Reserve slot count) (accepted result) store.new }
 {
     if slot as usize >= slots.len() || slots[slot as usize].is_some() {
         return Answer::NoSlot;
@@ -136,8 +136,8 @@ fn close<T: Copy, S: DequeStore<T>>(
     slots: &mut [Option<Held>],
     slot: u8,
 ) -> Answer<T>
-    ensures answer { Answered (meaning store.old) slots.old (Close slot) (meaning store.new) slots.new result }
-    ensures kind { Carries goes grows store.old (Close slot) (accepted result) store.new }
+    ensures answer { Answered (S.meaning store.old) slots.old (Close slot) (S.meaning store.new) slots.new result }
+    ensures kind { Carries S.goes S.grows store.old (Close slot) (accepted result) store.new }
 {
     let Some(held) = held_in(slots, slot) else {
         return Answer::NoSlot;
@@ -160,8 +160,8 @@ fn carry_out<T: Copy, S: DequeStore<T>>(
     slots: &mut [Option<Held>],
     call: Call<T>,
 ) -> Answer<T>
-    ensures answer { Answered (meaning store.old) slots.old call (meaning store.new) slots.new result }
-    ensures kind { Carries goes grows store.old call (accepted result) store.new }
+    ensures answer { Answered (S.meaning store.old) slots.old call (S.meaning store.new) slots.new result }
+    ensures kind { Carries S.goes S.grows store.old call (accepted result) store.new }
 {
     match call {
         Call::Ask(question) => ask(store, question),
@@ -179,7 +179,7 @@ pub fn replay<T: Copy, S: DequeStore<T>>(
     slots: &mut [Option<Held>],
     calls: &[Call<T>],
 ) -> Result<Vec<Answer<T>>, AllocError>
-    ensures { MatchResult result (λ answers. Replayed meaning goes grows store.old slots.old calls.now answers.items store.new slots.new) (λ _. (store.new ≡ store.old) × (slots.new ≡ slots.old)) }
+    ensures { MatchResult result (λ answers. Replayed S.meaning S.goes S.grows store.old slots.old calls.now answers.items store.new slots.new) (λ _. (store.new ≡ store.old) × (slots.new ≡ slots.old)) }
 {
     let mut answers = Vec::with_capacity(heap, calls.len())?;
     for call in calls {

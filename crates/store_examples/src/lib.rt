@@ -14,8 +14,8 @@ pub fn push_reserved<T: Copy, S: DequeStore<T>>(
     version: u16,
     item: T,
 ) -> Result<u16, Fault>
-    ensures answer { PushedReserved (meaning store.old) version item (meaning store.new) result }
-    ensures kind { OnOk result (goes store.old version (Push item) store.new) }
+    ensures answer { PushedReserved (S.meaning store.old) version item (S.meaning store.new) result }
+    ensures kind { OnOk result (S.goes store.old version (Push item) store.new) }
 {
     let mut reservation = store.reserve(1)?;
     let pushed = store.push_under(version, item, &mut reservation);

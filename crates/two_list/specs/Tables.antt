@@ -1,5 +1,5 @@
 -- The tables of a two-list store: what their rows hold, when they are sound, and their shares of the credit.
-use Rattle.std.specs.Prelude.{ℕ, ◌+◌, ◌-◌, ◌/◌, ◌<◌, ◌≤◌, min, List, [], ◌∷◌, map, length, slice_index_or}
+use Rattle.std.specs.Prelude.{ℕ, ◌+◌, ◌/◌, ◌<◌, ◌≤◌, min, List, [], ◌∷◌, map, length, slice_index_or}
 use Rattle.two_list.specs.Chains.{cell_at, chain, picked}
 use Rattle.two_list.specs.Sides.{Sides, list_of}
 use Rattle.two_list.specs.declared.rows.ListCell.{ListCell}

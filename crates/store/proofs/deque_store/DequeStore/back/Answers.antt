@@ -9,5 +9,5 @@ returns-then-length-eq0 g c = search (rules, last_none)
 pub returns : goal.returns
 returns g c =
     let m = g.Self.DequeStore.meaning c.args.self.now in
-    let e = c.in-ok-length.ensures in
+    let e = c.in_ok-length.ensures in
     shown_as m c.args.version _ _ c.item.result (last_nth (list_of_version m c.args.version) _ (omega arith)) c.item.ensures

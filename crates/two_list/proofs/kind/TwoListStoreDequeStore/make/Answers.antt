@@ -52,13 +52,13 @@ take-item-requires g c =
     let s = c.args.self.now in
     pop_room s c.args.version c.args.change.now c.requires c.row-row.result c.row-row.ensures c.in-Pop.is
 
-pub invariant-of-self-in-Pop : goal.invariant-of-self-in-Pop
-invariant-of-self-in-Pop g c =
+pub invariant_of-self-in-Pop : goal.invariant_of-self-in-Pop
+invariant_of-self-in-Pop g c =
     let s = c.args.self.now in
     let t = c.take-item.new.self in
     let left = c.take-item.ensures.cells in
     let kept = undisturbed s t.versions.now t.items.now t.cells.now c.take-item.ensures.versions (ap length c.take-item.ensures.items) left.size left.before in
-    (kept.0, (s.bounded, (kept.1, (kept.2, (kept.3, tt)))))
+    record { filled = kept.0; bounded = s.bounded; covered = kept.1; closed = kept.2; fitting = kept.3 }
 
 pub add-requires-in-Pop : goal.add-requires-in-Pop
 add-requires-in-Pop g c =
@@ -80,13 +80,13 @@ take-item-requires-in-Eject g c =
     let s = c.args.self.now in
     eject_room s c.args.version c.args.change.now c.requires c.row-row.result c.row-row.ensures c.in-Eject.is
 
-pub invariant-of-self-in-Eject : goal.invariant-of-self-in-Eject
-invariant-of-self-in-Eject g c =
+pub invariant_of-self-in-Eject : goal.invariant_of-self-in-Eject
+invariant_of-self-in-Eject g c =
     let s = c.args.self.now in
     let t = c.take-item-in-Eject.new.self in
     let left = c.take-item-in-Eject.ensures.cells in
     let kept = undisturbed s t.versions.now t.items.now t.cells.now c.take-item-in-Eject.ensures.versions (ap length c.take-item-in-Eject.ensures.items) left.size left.before in
-    (kept.0, (s.bounded, (kept.1, (kept.2, (kept.3, tt)))))
+    record { filled = kept.0; bounded = s.bounded; covered = kept.1; closed = kept.2; fitting = kept.3 }
 
 pub add-requires-in-Eject : goal.add-requires-in-Eject
 add-requires-in-Eject g c =

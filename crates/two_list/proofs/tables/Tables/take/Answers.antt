@@ -10,8 +10,8 @@ bounds-self-ends g c =
     let b = within t.items.now t.cells.now c.args.linked c.args.near c.args.far c.requires c.refill-ends.new.self.cells.now c.refill-ends.result c.refill-ends.ensures.cells in
     omega arith
 
-pub overflow-sub-rest : goal.overflow-sub-rest
-overflow-sub-rest g c =
+pub overflow_sub-rest : goal.overflow_sub-rest
+overflow_sub-rest g c =
     let t = c.args.self.now in
     (refilled_length t.items.now t.cells.now c.args.linked c.args.near c.args.far c.requires c.refill-ends.new.self.cells.now c.refill-ends.result c.refill-ends.ensures.cells).0
 
