@@ -30,7 +30,7 @@ fn calls_of(heap: Global, lines: &[Line]) -> Result<Vec<Call<u16>>, AllocError>
 
 /// The item at a place of a version, if there is one.
 fn item_at<S: DequeStore<u16>>(store: &S, version: u16, place: u16) -> Option<u16>
-    ensures { result ≡ slice_get (list_of_version (meaning store.now) version) place }
+    ensures { result ≡ slice_get (list_of_version (S.meaning store.now) version) place }
 {
     match store.item(version, place) {
         Ok(item) => item,
@@ -57,7 +57,7 @@ fn write_items<S: DequeStore<u16>>(
     version: u16,
     out: &mut Vec<u8>,
 ) -> Result<(), AllocError>
-    ensures { OnOk result (out.new.items ≡ out.old.items ++ item_fields (list_of_version (meaning store.now) version)) }
+    ensures { OnOk result (out.new.items ≡ out.old.items ++ item_fields (list_of_version (S.meaning store.now) version)) }
 {
     for place in 0..store.longest() {
         write_item(heap, item_at(store, version, place), out)?;
@@ -73,7 +73,7 @@ fn write_report<S: DequeStore<u16>>(
     answer: Answer<u16>,
     out: &mut Vec<u8>,
 ) -> Result<(), AllocError>
-    ensures { OnOk result (out.new.items ≡ out.old.items ++ report (meaning store.now).versions line answer) }
+    ensures { OnOk result (out.new.items ≡ out.old.items ++ report (S.meaning store.now).versions line answer) }
 {
     if let (Line::List(version), Answer::Length(_)) = (line, answer) {
         out.extend_from_slice(b"list")?;
@@ -94,7 +94,7 @@ fn write_reports<S: DequeStore<u16>>(
     answers: &[Answer<u16>],
     out: &mut Vec<u8>,
 ) -> Result<(), AllocError>
-    ensures { OnOk result (out.new.items ≡ out.old.items ++ reports (meaning store.now).versions lines.now answers.now) }
+    ensures { OnOk result (out.new.items ≡ out.old.items ++ reports (S.meaning store.now).versions lines.now answers.now) }
 {
     for i in 0..lines.len().min(answers.len()) {
         write_report(heap, store, lines[i], answers[i], out)?;
@@ -110,7 +110,7 @@ pub fn answer<S: DequeStore<u16>>(
     slots: &mut [Option<Held>],
     lines: &[Line],
 ) -> Result<Vec<u8>, AllocError>
-    ensures { IfOk result (λ text. Reported meaning goes grows store.old slots.old lines.now text.items store.new slots.new) }
+    ensures { IfOk result (λ text. Reported S.meaning S.goes S.grows store.old slots.old lines.now text.items store.new slots.new) }
 {
     let calls = calls_of(heap, lines)?;
     let answers = replay(heap, store, slots, calls.as_slice())?;

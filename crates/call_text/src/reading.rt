@@ -14,7 +14,7 @@ use std::fmt;
 
 /// Whether the text is just what is written of the value.
 fn writes<D: fmt::Display>(heap: Global, value: &D, text: &[u8]) -> Result<bool, AllocError>
-    ensures { IfOk result (λ b. (bytes : List ℕ) → output value.now ≡ Some bytes → b ≡ true → text.now ≡ bytes) }
+    ensures { IfOk result (λ b. (bytes : List ℕ) → D.output value.now ≡ Some bytes → b ≡ true → text.now ≡ bytes) }
 {
     let written = format!(in heap; "{value}")?;
     Ok(written.as_bytes() == text)

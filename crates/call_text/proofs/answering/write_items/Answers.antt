@@ -6,7 +6,7 @@ use Rattle.store.specs.Meanings.{list_of_version}
 pub loop-place-preserved : goal.loop-place-preserved
 loop-place-preserved g c =
     let m = g.S.DequeStore.meaning c.args.store.now in
-    item_more (list_of_version m c.args.version) c.loop-place.place c.item-at.result (vec_items c.args.out.now) (vec_items c.loop-place.out) (vec_items c.write-item.new.out) c.item-at.ensures c.loop-place.invariant c.in_ok-write-item.ensures
+    item_more (list_of_version m c.args.version) c.loop-place.place c.item_at.result (vec_items c.args.out.now) (vec_items c.loop-place.out) (vec_items c.write_item.new.out) c.item_at.ensures c.loop-place.invariant c.in_ok-write_item.ensures
 
 pub returns : goal.returns
 returns g c =

@@ -8,7 +8,7 @@ loop-first-init c =
 
 pub loop-first-preserved : goal.loop-first-preserved
 loop-first-preserved c =
-    extended c.args.text.now c.in-Some-split-once.first.now c.in-Some-split-once.more.now c.loop-first.rest.now c.in-Some-2.opening (vec_items c.loop-first.lines) (vec_items c.push.new.self) c.in-Some-3.line c.loop-first.invariant (search rules) (search rules) (search rules)
+    extended c.args.text.now c.in-Some-split_once.first.now c.in-Some-split_once.more.now c.loop-first.rest.now c.in-Some-2.opening (vec_items c.loop-first.lines) (vec_items c.push.new.self) c.in-Some-3.line c.loop-first.invariant (search rules) (search rules) (search rules)
 
 pub returns : goal.returns
 returns c = ended c.args.text.now c.loop-first.rest.now c.in-Some-2.opening (vec_items c.loop-first.lines) c.loop-first.invariant (search rules)
