@@ -529,7 +529,7 @@ def main():
         formatter_class=argparse.ArgumentDefaultsHelpFormatter,
     )
     option = parser.add_argument
-    option("--program", default=str(ROOT / "target" / "bin" / "replay_stores"), help="the program to run")
+    option("--program", default=str(ROOT / "crates" / "replay_stores" / "out" / "replay_stores"), help="the program to run")
     option("--seed", type=int, default=1, help="the seed of the first run; each further run has the next one")
     option("--calls", type=int, default=20_000, help="how many calls a run makes")
     option("--runs", type=int, default=1, help="how many runs there are")
