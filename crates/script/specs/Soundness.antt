@@ -1,5 +1,5 @@
 -- The rules that a script keeps: the ranges of its numbers, its marks, goals and acts.
-use Rattle.std.specs.Prelude.{ℕ, Bool, true, ◌&&◌, ltb, List, [], ◌∷◌, length, nat_le, nat_lt}
+use Rattle.std.specs.Prelude.{ℕ, Bool, true, ◌&&◌, List, [], ◌∷◌, length, nat_le, nat_lt}
 use Rattle.script.specs.Contents.{Content, RuleContent}
 use Rattle.script.specs.declared.rules.Act.{Act}
 use Rattle.script.specs.declared.rules.Act.TheVariants.{Push, Inject, Pop, Eject}
@@ -35,7 +35,7 @@ abbrev pub sound_start : Content → Bool
 sound_start c = nat_lt c.start c.states && every is_mark c.marks && nat_le (length c.marks) c.width
 
 abbrev pub sound_goals : Content → Bool
-sound_goals c = every (λ g. ltb g c.states) c.goals && rising c.goals && nat_le (length c.goals) 8
+sound_goals c = every (λ g. nat_lt g c.states) c.goals && rising c.goals && nat_le (length c.goals) 8
 
 abbrev pub sound_rules : Content → Bool
 sound_rules c = every (sound_rule c.states) c.rules && nat_le (length c.rules) 64
