@@ -66,10 +66,10 @@ rows_from :
       goals = after.goals;
       rules = rules;
     })
-rows_from rs head start after rules (h, sound_head) (s, sound_start) (g, rises) r = (
+rows_from rs head start after rules (h, head_holds) (s, start_holds) (g, rises) r = (
   record {
-    head = sound_head;
-    start = sound_start;
+    head = head_holds;
+    start = start_holds;
     goals = ap (every (λ x. ltb x head.states)) g.behind ∙ g.each;
     rises = rises;
     few_goals = g.few;
