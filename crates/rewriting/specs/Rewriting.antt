@@ -1,22 +1,17 @@
 -- What the rewriting of a text writes: the text of the script that was read, or the line of the refusal.
-use Rattle.std.specs.Prelude.{◌≡◌, ℕ, true, List, [], Some, None, Ok, Err, Option, Result}
+use Rattle.std.specs.Prelude.{◌≡◌, ℕ, true, List, Ok, Err, Result}
 use Rattle.script.specs.Contents.{Content}
-use Rattle.script.specs.Refusals.{refusal, refusal_row}
+use Rattle.script.specs.Refusals.{refusal_row}
 use Rattle.script.specs.Soundness.{sound}
 use Rattle.script.specs.Tables.{line}
 use Rattle.script.specs.Texts.{text}
-use Rattle.script.specs.declared.rules.ReadError.{ReadError}
-use Rattle.script.specs.declared.rules.Refusal.{Refusal}
+use Rattle.script.specs.declared.refusals.Refusal.{Refusal}
 use Rattle.script_writer.specs.Buffers.{Written}
 use Rattle.script_writer.specs.declared.buffers.WriteError.{WriteError}
 
-abbrev pub line_of : Option Refusal → List ℕ
-line_of None = []
-line_of (Some q) = line (refusal_row q)
-
-abbrev pub rewritten : Result Content ReadError → List ℕ
+abbrev pub rewritten : Result Content Refusal → List ℕ
 rewritten (Ok c) = text c
-rewritten (Err e) = line_of (refusal e)
+rewritten (Err q) = line (refusal_row q)
 
 -- the bytes are the text of a script
 abbrev pub IsText : List ℕ → Type 0

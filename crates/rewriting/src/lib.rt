@@ -27,9 +27,7 @@ pub fn rewrite(heap: Global, bytes: &[u8], buffer: &mut [u8]) -> Result<usize, W
 {
     match parse(heap, bytes) {
         Ok(script) => write(&script, heap, buffer),
-        Err(error) => match error.refusal() {
-            Some(refusal) => write_refusal(heap, refusal, buffer),
-            None => Err(WriteError::Memory),
-        },
+        Err(ReadError::Refused(refusal)) => write_refusal(heap, refusal, buffer),
+        Err(ReadError::Memory) => Err(WriteError::Memory),
     }
 }

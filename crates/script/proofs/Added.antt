@@ -1,7 +1,7 @@
 -- Items that a reading adds to those it has, a line for each.
 use Rattle.std.proofs.Common.{◌≡◌, ℕ, ◌≤◌, Bool, true, List, [], ◌∷◌, ◌++◌, map, length, sym, refl, ap, ◌∙◌, append_assoc, append-nil}
+use Rattle.std.specs.List.{list_all}
 use Rattle.std.proofs.lemmas.Bool.{and_from}
-use Rattle.script.specs.Soundness.{every}
 use Rattle.script.specs.Tables.{Row}
 
 -- the rows begin with the lines of the items that come behind those done, each passes the test, and no more than most are read in all
@@ -9,7 +9,7 @@ pub record Added {X : Type 0} (row : X → Row) (passes : X → Bool) (most : �
   pub items : List X
   pub behind : all ≡ done ++ items
   pub lines : rows ≡ map row items ++ rest
-  pub each : every passes items ≡ true
+  pub each : list_all passes items ≡ true
   pub few : length all ≤ most
 
 module _ {X : Type 0} (row : X → Row) (passes : X → Bool) (most : ℕ) where
@@ -26,6 +26,6 @@ module _ {X : Type 0} (row : X → Row) (passes : X → Bool) (most : ℕ) where
         items = x ∷ a.items;
         behind = a.behind ∙ append_assoc done (x ∷ []) a.items;
         lines = is ∙ ap {B = List Row} (λ z. row x ∷ z) a.lines;
-        each = and_from (passes x) (every passes a.items) here a.each;
+        each = and_from (passes x) (list_all passes a.items) here a.each;
         few = a.few;
       }

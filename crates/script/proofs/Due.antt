@@ -6,8 +6,8 @@ use Rattle.std.specs.Str.{bytes_eq}
 use Rattle.script.specs.Fields.{field}
 use Rattle.script.specs.Reading.{due}
 use Rattle.script.specs.Tables.{Row}
-use Rattle.script.specs.declared.rules.ReadError.TheVariants.{Shape}
-use Rattle.script.proofs.Outcomes.{ask_is, not_ok}
+use Rattle.script.specs.declared.refusals.Refusal.TheVariants.{Shape}
+use Rattle.script.proofs.Outcomes.{ask_is}
 
 -- the row is the first, and another stands behind it
 pub record First (rows : List Row) (row : Row) : Type 0 where
@@ -47,8 +47,8 @@ row_is word count row h =
 -- what is read as due is that
 pub due_is : (n : ℕ) (word : List ℕ) (count : ℕ) (rows : List Row) (row : Row) → due n word (suc count) rows ≡ Ok row → First rows row × (row ≡ word ∷ fields 1 count row)
 unfolding due
-due_is n word count [] row e = not_ok (Shape n) row e
-due_is n word count (r ∷ []) row e = not_ok (Shape n) row e
+due_is n word count [] row e = cc
+due_is n word count (r ∷ []) row e = cc
 due_is n word count (r ∷ next ∷ more) row e =
     let (fits, same) = ask_is (bytes_eq (field 0 r) word && eqb (length r) (suc count)) (Shape n) (Ok r) row e in
     let is : r ≡ row = cc in

@@ -1,14 +1,15 @@
 -- Goals: the lines that are read as goals are theirs, and the lines of rising goals are read.
 use Rattle.std.proofs.Common.{◌≡◌, ℕ, ◌+◌, ◌<◌, ◌≤◌, Bool, true, false, cond, ltb, List, [], ◌∷◌, ◌++◌, map, length, Ok, codes, Result, refl, ap, ◌∙◌, subst, append_assoc, append-nil, arith}
+use Rattle.std.specs.List.{list_all}
 use Rattle.std.proofs.lemmas.List.{length-append, length_push}
 use Rattle.std.proofs.lemmas.Bool.{and_parts, and_from}
 use Rattle.std.specs.Str.{bytes_eq}
 use Rattle.script.specs.Fields.{◌>>=◌, field}
 use Rattle.script.specs.Reading.{above, goal_of, Goals, goals_on}
-use Rattle.script.specs.Soundness.{every, rising}
+use Rattle.script.specs.Soundness.{rising}
 use Rattle.script.specs.Tables.{Row}
 use Rattle.script.specs.Texts.{goal_row}
-use Rattle.script.specs.declared.rules.ReadError.{ReadError}
+use Rattle.script.specs.declared.refusals.Refusal.{Refusal}
 use Rattle.script.proofs.Added.{Added, added_none, added_more}
 use Rattle.script.proofs.Due.{first}
 use Rattle.script.proofs.Lines.{goal_is, goal_line}
@@ -57,14 +58,14 @@ module _ (states : ℕ) where
     -- the lines of rising goals are read, up to the rows behind them, at which the goals end
     pub goals_read :
         ((k : ℕ) (all : List ℕ) → goals_on k states all rest ≡ Ok (record { goals = all; next = k; rows = rest })) →
-        (n : ℕ) (done gs : List ℕ) → every (λ g. ltb g states) gs ≡ true → rising (done ++ gs) ≡ true → length (done ++ gs) ≤ 8 →
+        (n : ℕ) (done gs : List ℕ) → list_all (λ g. ltb g states) gs ≡ true → rising (done ++ gs) ≡ true → length (done ++ gs) ≤ 8 →
         (m : ℕ) × (goals_on n states done (map goal_row gs ++ rest) ≡ Ok (record { goals = done ++ gs; next = m; rows = rest }))
     goals_read ends n done [] each up few = (n, rw append-nil (ends n done))
     goals_read ends n done (g ∷ gs) each up few =
-        let (there, others) = and_parts (ltb g states) (every (λ x. ltb x states) gs) each in
+        let (there, others) = and_parts (ltb g states) (list_all (λ x. ltb x states) gs) each in
         let more = map goal_row gs ++ rest in
         let room : length done < 8 = omega (arith, length-append done (g ∷ gs)) in
         let here = goal_line n states done (goal_row g ∷ more) g (first (goal_row g) more (rw length-append (omega arith))) fits there (rising_above done g gs up) room in
         let same = append_assoc done (g ∷ []) gs in
         let (m, is) = goals_read ends (n + 1) (done ++ g ∷ []) gs others (ap rising same ∙ up) (rw same few) in
-        (m, rw here (is ∙ ap {B = Result Goals ReadError} (λ z. Ok (record { goals = z; next = m; rows = rest })) same))
+        (m, rw here (is ∙ ap {B = Result Goals Refusal} (λ z. Ok (record { goals = z; next = m; rows = rest })) same))

@@ -1,9 +1,10 @@
 -- The rules that a sound script keeps, one by one.
 use Rattle.std.proofs.Common.{◌≡◌, ◌≤◌, true, ltb, length, arith}
+use Rattle.std.specs.List.{list_all}
 use Rattle.std.proofs.lemmas.Bool.Decides.{nat_tests}
 use Rattle.script.specs.Contents.{Content}
 use Rattle.script.specs.Reading.{Head, Start}
-use Rattle.script.specs.Soundness.{every, rising, sound_rule, sound}
+use Rattle.script.specs.Soundness.{rising, sound_rule, sound}
 use Rattle.script.proofs.Lines.{sound_head, sound_start_at}
 
 -- the head and the start of a script
@@ -17,10 +18,10 @@ start_in c = record { state = c.start; marks = c.marks }
 pub record Kept (c : Content) : Type 0 where
   pub head : sound_head (head_in c) ≡ true
   pub start : sound_start_at c.states c.width (start_in c) ≡ true
-  pub goals : every (λ g. ltb g c.states) c.goals ≡ true
+  pub goals : list_all (λ g. ltb g c.states) c.goals ≡ true
   pub rises : rising c.goals ≡ true
   pub few_goals : length c.goals ≤ 8
-  pub rules : every (sound_rule c.states) c.rules ≡ true
+  pub rules : list_all (sound_rule c.states) c.rules ≡ true
   pub few_rules : length c.rules ≤ 64
 
 pub kept : (c : Content) → sound c ≡ true → Kept c

@@ -1,13 +1,14 @@
 -- Reading and writing undo one another.
 use Rattle.std.proofs.Common.{◌≡◌, ℕ, ◌<◌, true, ltb, List, [], ◌∷◌, ◌++◌, map, length, drop, Ok, sym, refl, ap, ◌∙◌, subst, append_assoc, arith}
+use Rattle.std.specs.List.{list_all}
 use Rattle.std.proofs.lemmas.List.{length-append, drop-drop}
 use Rattle.script.specs.Claims.{AcceptedIsText, TextIsAccepted}
 use Rattle.script.specs.Contents.{Content, RuleContent}
 use Rattle.script.specs.Reading.{Head, head_of, Start, start_of, Goals, goals_on, rules_on, read_rows, reading}
-use Rattle.script.specs.Soundness.{within, every, sound, sound_rule}
+use Rattle.script.specs.Soundness.{within, sound, sound_rule}
 use Rattle.script.specs.Tables.{Row, table}
 use Rattle.script.specs.Texts.{head_row, start_row, goal_row, rule_row, rows, text}
-use Rattle.script.specs.declared.rules.ReadError.TheVariants.{Size}
+use Rattle.script.specs.declared.refusals.Refusal.TheVariants.{Size}
 use Rattle.script.proofs.Due.{First, first}
 use Rattle.script.proofs.GoalLines.{GoalLines, goals_are, goals_read}
 use Rattle.script.proofs.Kept.{head_in, start_in, Kept, kept, sound_from}
@@ -70,10 +71,10 @@ rows_from rs head start after rules (h, head_holds) (s, start_holds) (g, rises) 
   record {
     head = head_holds;
     start = start_holds;
-    goals = ap (every (λ x. ltb x head.states)) g.behind ∙ g.each;
+    goals = ap (list_all (λ x. ltb x head.states)) g.behind ∙ g.each;
     rises = rises;
     few_goals = g.few;
-    rules = ap (every (sound_rule head.states)) r.behind ∙ r.each;
+    rules = ap (list_all (sound_rule head.states)) r.behind ∙ r.each;
     few_rules = r.few;
   },
   cc

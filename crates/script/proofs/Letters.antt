@@ -3,13 +3,12 @@ use Rattle.std.proofs.Common.{◌≡◌, ℕ, ◌*◌, Bool, true, false, cond, 
 use Rattle.std.proofs.ByRecursion.{All-append}
 use Rattle.std.proofs.lemmas.Bool.{and_parts, and_from}
 use Rattle.std.proofs.lemmas.Bool.Decides.{nat_tests}
-use Rattle.std.specs.List.{AllByRecursion as All}
+use Rattle.std.specs.List.{AllByRecursion as All, list_all}
 use Rattle.script.specs.Fields.{act_by, act_of, before, acts}
-use Rattle.script.specs.Soundness.{every, is_mark, mark_of}
+use Rattle.script.specs.Soundness.{is_mark, mark_of}
 use Rattle.script.specs.Texts.{act_text, acts_text}
 use Rattle.script.specs.declared.rules.Act.{Act}
 use Rattle.script.specs.declared.rules.Act.TheVariants.{Push, Inject, Pop, Eject}
-use Rattle.script.proofs.Outcomes.{not_some}
 use Rattle.script.proofs.Parting.{Above}
 
 -- the act has a mark
@@ -29,29 +28,29 @@ act_of_is letter m a e = go (is_mark m) refl e
   where
     go : (b : Bool) → is_mark m ≡ b → cond b (act_by letter m) None ≡ Some a → (letter ∷ m ∷ [] ≡ act_text a) × (marked a ≡ true)
     go true h k = let p = act_by_is letter m a k in (p.0, ap is_mark p.1 ∙ h)
-    go false h k = not_some a k
+    go false h k = cc
 
 -- one act before others is read where each is
 before_is : (o : Option Act) (r : Option (List Act)) (all : List Act) → before o r ≡ Some all → (a : Act) × (rest : List Act) × (o ≡ Some a) × (r ≡ Some rest) × (all ≡ a ∷ rest)
-before_is None r all e = not_some all e
-before_is (Some a) None all e = not_some all e
+before_is None r all e = cc
+before_is (Some a) None all e = cc
 before_is (Some a) (Some rest) all e = (a, rest, refl, refl, cc)
 
 -- what is read as acts is their text
-pub acts_is : (f : List ℕ) (all : List Act) → acts f ≡ Some all → (f ≡ acts_text all) × (every marked all ≡ true)
-acts_is [] all e = let none : all ≡ [] = cc in (ap acts_text (sym none), ap (every marked) none)
-acts_is (letter ∷ []) all e = not_some all e
+pub acts_is : (f : List ℕ) (all : List Act) → acts f ≡ Some all → (f ≡ acts_text all) × (list_all marked all ≡ true)
+acts_is [] all e = let none : all ≡ [] = cc in (ap acts_text (sym none), ap (list_all marked) none)
+acts_is (letter ∷ []) all e = cc
 acts_is (letter ∷ m ∷ f) all e =
     let (a, rest, ea, er, is) = before_is (act_of letter m) (acts f) all e in
     let p = act_of_is letter m a ea in
     let q = acts_is f rest er in
-    (ap {B = List ℕ} (λ z. z ++ f) p.0 ∙ (ap (λ z. act_text a ++ z) q.0 ∙ ap acts_text (sym is)), ap (every marked) is ∙ and_from (marked a) (every marked rest) p.1 q.1)
+    (ap {B = List ℕ} (λ z. z ++ f) p.0 ∙ (ap (λ z. act_text a ++ z) q.0 ∙ ap acts_text (sym is)), ap (list_all marked) is ∙ and_from (marked a) (list_all marked rest) p.1 q.1)
 
 -- the text of acts with marks is read as those acts
-pub acts_text_lem : (all : List Act) → every marked all ≡ true → acts (acts_text all) ≡ Some all
+pub acts_text_lem : (all : List Act) → list_all marked all ≡ true → acts (acts_text all) ≡ Some all
 acts_text_lem [] h = refl
 acts_text_lem (a ∷ rest) h =
-    let p = and_parts (marked a) (every marked rest) h in
+    let p = and_parts (marked a) (list_all marked rest) h in
     one a p.0 (acts_text rest) ∙ ap (before (Some a)) (acts_text_lem rest p.1)
   where
     one : (x : Act) → marked x ≡ true → (f : List ℕ) → acts (act_text x ++ f) ≡ before (Some x) (acts f)
@@ -61,15 +60,15 @@ acts_text_lem (a ∷ rest) h =
     one (Eject m) k f = ap (λ b. before (cond b (Some (Eject m)) None) (acts f)) k
 
 -- no mark is a separator
-pub marks_plain : (ms : List ℕ) → every is_mark ms ≡ true → All Above ms
+pub marks_plain : (ms : List ℕ) → list_all is_mark ms ≡ true → All Above ms
 marks_plain [] h = tt
-marks_plain (m ∷ ms) h = let p = and_parts (is_mark m) (every is_mark ms) h in (grind (arith, nat_tests), marks_plain ms p.1)
+marks_plain (m ∷ ms) h = let p = and_parts (is_mark m) (list_all is_mark ms) h in (grind (arith, nat_tests), marks_plain ms p.1)
 
 -- no byte of an act is a separator
-pub acts_plain : (all : List Act) → every marked all ≡ true → All Above (acts_text all)
+pub acts_plain : (all : List Act) → list_all marked all ≡ true → All Above (acts_text all)
 acts_plain [] h = tt
 acts_plain (a ∷ rest) h =
-    let p = and_parts (marked a) (every marked rest) h in
+    let p = and_parts (marked a) (list_all marked rest) h in
     All-append Above (act_text a) (acts_text rest) (one a p.0) (acts_plain rest p.1)
   where
     one : (x : Act) → marked x ≡ true → All Above (act_text x)

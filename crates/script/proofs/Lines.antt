@@ -1,14 +1,15 @@
 -- Lines: what the line of each kind is where it is read, and that it is read where it is that.
 use Rattle.std.proofs.Common.{◌≡◌, ℕ, ◌<◌, ◌≤◌, Bool, true, ◌&&◌, ltb, leb, List, [], ◌∷◌, length, Ok, codes, decimal, refl, subst, arith}
+use Rattle.std.specs.List.{list_all}
 use Rattle.std.proofs.lemmas.Bool.{and_parts, ltb-true, lt-ltb}
 use Rattle.std.proofs.lemmas.Bool.Decides.{nat_tests}
 use Rattle.script.specs.Contents.{RuleContent}
 use Rattle.script.specs.Fields.{field, number_in, state_in, marks_in, acts_in}
 use Rattle.script.specs.Reading.{due, Head, head_of, Start, start_of, above, goal_of, rule_of}
-use Rattle.script.specs.Soundness.{within, every, is_mark, sound_rule}
+use Rattle.script.specs.Soundness.{within, is_mark, sound_rule}
 use Rattle.script.specs.Tables.{Row}
 use Rattle.script.specs.Texts.{goal_row, rule_row}
-use Rattle.script.specs.declared.rules.ReadError.TheVariants.{Sequence}
+use Rattle.script.specs.declared.refusals.Refusal.TheVariants.{Sequence}
 use Rattle.script.proofs.Due.{First, at_first, due_is}
 use Rattle.script.proofs.Fields.{number_is, number_decimal, state_is, state_decimal, marks_is, marks_themselves, acts_in_is, acts_in_text}
 use Rattle.script.proofs.Outcomes.{bind_is, ask_is, from_ok}
@@ -55,7 +56,7 @@ abbrev pub start_line : Start → Row
 start_line s = codes "start" ∷ decimal s.state ∷ s.marks ∷ []
 
 abbrev pub sound_start_at : ℕ → ℕ → Start → Bool
-sound_start_at states width s = ltb s.state states && every is_mark s.marks && leb (length s.marks) width
+sound_start_at states width s = ltb s.state states && list_all is_mark s.marks && leb (length s.marks) width
 
 pub start_is : (n states width : ℕ) (rows : List Row) (s : Start) → start_of n states width rows ≡ Ok s → First rows (start_line s) × (sound_start_at states width s ≡ true)
 unfolding start_of

@@ -6,7 +6,7 @@ use Rattle.std.proofs.lemmas.Bool.{cases_lt}
 use Rattle.std.proofs.lemmas.Bool.Decides.{nat_tests}
 use Rattle.std.specs.List.{AllByRecursion as All}
 use Rattle.script.specs.Fields.{numeral, is_digit}
-use Rattle.script.proofs.Outcomes.{not_some, cond_some}
+use Rattle.script.proofs.Outcomes.{cond_some}
 use Rattle.script.proofs.Parting.{Above}
 
 -- one digit more, by its byte
@@ -36,7 +36,7 @@ decimal_three a b c some ha lb hb low high =
 
 -- what is read as a number is its decimal
 pub numeral_is : (f : List ℕ) (v : ℕ) → numeral f ≡ Some v → (f ≡ decimal v) × (v < 1000)
-numeral_is [] v e = not_some v e
+numeral_is [] v e = cc
 numeral_is (a ∷ []) v e =
     let p = cond_some (is_digit a) (a - 48) v e in
     let low : 48 ≤ a = grind (arith, nat_tests) in
@@ -58,7 +58,7 @@ numeral_is (a ∷ b ∷ c ∷ []) v e =
     let lc : 48 ≤ c = grind (arith, nat_tests) in
     let hc : c ≤ 57 = grind (arith, nat_tests) in
     (sym (decimal_three a b c la ha lb hb lc hc) ∙ ap decimal p.1, omega (arith, p.1))
-numeral_is (a ∷ b ∷ c ∷ d ∷ more) v e = not_some v e
+numeral_is (a ∷ b ∷ c ∷ d ∷ more) v e = cc
 
 -- the decimal of a number below 1000 is read as that number
 pub numeral_decimal : (v : ℕ) → v < 1000 → numeral (decimal v) ≡ Some v

@@ -1,14 +1,15 @@
 -- A text and its table: parting at a separator and joining undo one another, where no part holds the separator.
-use Rattle.std.proofs.Common.{◌≡◌, ℕ, ◌<◌, ◌≤◌, eqb, List, [], ◌∷◌, ◌++◌, map, length, sym, refl, ap, ◌∙◌, append_assoc, arith}
-use Rattle.std.proofs.ByRecursion.{All-append, All-map, All-weaker}
+use Rattle.std.proofs.Common.{◌≡◌, ℕ, ◌<◌, ◌≤◌, false, eqb, List, [], ◌∷◌, ◌++◌, map, length, sym, refl, ap, ◌∙◌, append_assoc, arith}
+use Rattle.std.proofs.ByRecursion.{All-append, All-get_or, All-map, All-weaker}
 use Rattle.std.proofs.lemmas.List.{length-append, length-map}
-use Rattle.std.proofs.lemmas.Bool.{eqb-true, eq-eqb, ne_eqb, cond-true, cond-false, cond_both}
+use Rattle.std.proofs.lemmas.List.Splits.{join_with_byte-slice_split, length-slice_split, slice_split_at, slice_split_none}
+use Rattle.std.proofs.lemmas.Bool.{eq-eqb, ne_eqb}
 use Rattle.std.specs.List.{flat_map, AllByRecursion as All}
-use Rattle.script.specs.Tables.{Row, longer, parts, join, table, line}
+use Rattle.script.specs.Tables.{Row, parts, join, table, line}
 
 -- no byte of the list is the separator
 abbrev pub Free : ℕ → List ℕ → Type 0
-Free s p = All (λ b. b ≡ s → ⊥) p
+Free s p = All (λ b. eqb b s ≡ false) p
 
 -- what stands behind the last line feed of a text
 abbrev pub end : Row
@@ -16,41 +17,18 @@ end = [] ∷ []
 
 -- there is a first part
 pub parts_some : (s : ℕ) (t : List ℕ) → 0 < length (parts s t)
-parts_some s [] = omega arith
-parts_some s (b ∷ bs) = cond_both (eqb b s) ([] ∷ parts s bs) (longer b (parts s bs)) (λ ps. 0 < length ps) (λ _. omega arith) (λ _. some (parts s bs))
-  where
-    some : (ps : List (List ℕ)) → 0 < length (longer b ps)
-    some [] = omega arith
-    some (p ∷ ps) = omega arith
-
--- joining, part by part and byte by byte
-join_more : (s : ℕ) (p : List ℕ) (ps : List (List ℕ)) → 0 < length ps → join s (p ∷ ps) ≡ p ++ s ∷ join s ps
-join_more s p [] h = let w : ⊥ = omega arith in absurd w
-join_more s p (q ∷ ps) h = refl
-
-join_longer : (s b : ℕ) (ps : List (List ℕ)) → join s (longer b ps) ≡ b ∷ join s ps
-join_longer s b [] = refl
-join_longer s b (p ∷ []) = refl
-join_longer s b (p ∷ q ∷ ps) = refl
+parts_some s t = omega (arith, length-slice_split (λ b. eqb b s) t)
 
 -- the parts of a text make it again
 pub join_parts : (s : ℕ) (t : List ℕ) → join s (parts s t) ≡ t
-join_parts s [] = refl
-join_parts s (b ∷ bs) =
-    let rest = parts s bs in
-    let again = join_parts s bs in
-    cond_both (eqb b s) ([] ∷ rest) (longer b rest) (λ ps. join s ps ≡ b ∷ bs) (λ e. join_more s [] rest (parts_some s bs) ∙ cc (again, eqb-true b s e)) (λ _. join_longer s b rest ∙ cc again)
+join_parts s t = join_with_byte-slice_split s t
 
 -- parting, where the first part does not hold the separator
 pub parts_last : (s : ℕ) (p : List ℕ) → Free s p → parts s p ≡ p ∷ []
-parts_last s [] h = refl
-parts_last s (b ∷ p) h = cond-false (eqb b s) ([] ∷ parts s p) (longer b (parts s p)) (ne_eqb b s h.0) ∙ ap (longer b) (parts_last s p h.1)
+parts_last s p h = slice_split_none (λ b. eqb b s) p (λ k d below. All-get_or (λ b. eqb b s ≡ false) p k d below h)
 
 pub parts_more : (s : ℕ) (p q : List ℕ) → Free s p → parts s (p ++ s ∷ q) ≡ p ∷ parts s q
-parts_more s [] q h = cond-true (eqb s s) ([] ∷ parts s q) (longer s (parts s q)) (eq-eqb s s refl)
-parts_more s (b ∷ p) q h =
-    let t = p ++ s ∷ q in
-    cond-false (eqb b s) ([] ∷ parts s t) (longer b (parts s t)) (ne_eqb b s h.0) ∙ ap (longer b) (parts_more s p q h.1)
+parts_more s p q h = slice_split_at (λ b. eqb b s) p s q (λ k d below. All-get_or (λ b. eqb b s ≡ false) p k d below h) (eq-eqb s s refl)
 
 -- parts that do not hold the separator are those of the text that they make
 pub parts_join : (s : ℕ) (ps : List (List ℕ)) → 0 < length ps → All (Free s) ps → parts s (join s ps) ≡ ps
@@ -94,7 +72,7 @@ pub record Plain (row : Row) : Type 0 where
 
 -- plain fields hold no separator
 free : (s : ℕ) → s ≤ 10 → (row : Row) → Plain row → All (Free s) row
-free s h row p = All-weaker (All Above) (Free s) (All-weaker Above (λ b. b ≡ s → ⊥) (λ b above. omega arith)) row p.bytes
+free s h row p = All-weaker (All Above) (Free s) (All-weaker Above (λ b. eqb b s ≡ false) (λ b above. ne_eqb b s (λ e. omega arith))) row p.bytes
 
 -- plain rows are the table of the text that they make
 table_join : (rs : List Row) → 0 < length rs → All Plain rs → table (join 10 (map (join 9) rs)) ≡ rs
@@ -103,7 +81,7 @@ table_join rs some h =
     ap (map (parts 9)) (parts_join 10 (map (join 9) rs) (rw length-map some) (All-map (Free 10) (join 9) rs (All-weaker Plain (λ r. Free 10 (join 9 r)) lines rs h))) ∙ each rs h
   where
     lines : (r : Row) → Plain r → Free 10 (join 9 r)
-    lines r p = all_join (λ b. b ≡ 10 → ⊥) 9 (omega arith) r (free 10 (omega arith) r p)
+    lines r p = all_join (λ b. eqb b 10 ≡ false) 9 refl r (free 10 (omega arith) r p)
 
     each : (qs : List Row) → All Plain qs → map (parts 9) (map (join 9) qs) ≡ qs
     each [] p = refl

@@ -5,9 +5,9 @@ use Rattle.std.proofs.ByRecursion.{All-append, All-weaker}
 use Rattle.std.proofs.lemmas.List.{length-append, length-map}
 use Rattle.std.proofs.lemmas.Bool.{and_parts, and_from, le-leb}
 use Rattle.std.proofs.lemmas.Bool.Decides.{nat_tests}
-use Rattle.std.specs.List.{flat_map, AllByRecursion as All}
+use Rattle.std.specs.List.{flat_map, AllByRecursion as All, list_all}
 use Rattle.script.specs.Contents.{Content, RuleContent}
-use Rattle.script.specs.Soundness.{within, every, sound_rule}
+use Rattle.script.specs.Soundness.{within, sound_rule}
 use Rattle.script.specs.Tables.{Row, table, line}
 use Rattle.script.specs.Texts.{head_row, start_row, goal_row, rule_row, rows, text}
 use Rattle.script.proofs.Kept.{Kept}
@@ -30,9 +30,9 @@ record Fits (most : ℕ) (r : Row) : Type 0 where
   pub short : length (line r) ≤ most
 
 -- the lines of items that pass a test
-each_fits : {X : Type 0} (most : ℕ) (row : X → Row) (passes : X → Bool) → ((x : X) → passes x ≡ true → Fits most (row x)) → (xs : List X) → every passes xs ≡ true → All (Fits most) (map row xs)
+each_fits : {X : Type 0} (most : ℕ) (row : X → Row) (passes : X → Bool) → ((x : X) → passes x ≡ true → Fits most (row x)) → (xs : List X) → list_all passes xs ≡ true → All (Fits most) (map row xs)
 each_fits most row passes one [] h = tt
-each_fits most row passes one (x ∷ xs) h = let (here, others) = and_parts (passes x) (every passes xs) h in (one x here, each_fits most row passes one xs others)
+each_fits most row passes one (x ∷ xs) h = let (here, others) = and_parts (passes x) (list_all passes xs) h in (one x here, each_fits most row passes one xs others)
 
 -- the row of each kind
 goal_fits : (states : ℕ) → states ≤ 64 → (g : ℕ) → ltb g states ≡ true → Fits 24 (goal_row g)

@@ -1,19 +1,20 @@
 -- Rules: the lines that are read as rules are theirs and end the text, and the lines of rules are read.
 use Rattle.std.proofs.Common.{◌≡◌, ℕ, ◌+◌, ◌<◌, ◌≤◌, true, eqb, List, [], ◌∷◌, ◌++◌, map, length, Ok, refl, ap, ◌∙◌, subst, append_assoc, append-nil, arith}
+use Rattle.std.specs.List.{list_all}
 use Rattle.std.proofs.lemmas.List.{length-append, length_push}
 use Rattle.std.proofs.lemmas.Bool.{and_parts, and_from}
 use Rattle.std.specs.Str.{bytes_eq}
 use Rattle.script.specs.Contents.{RuleContent}
 use Rattle.script.specs.Fields.{◌>>=◌, field}
 use Rattle.script.specs.Reading.{rule_of, blank, rules_on}
-use Rattle.script.specs.Soundness.{every, sound_rule}
+use Rattle.script.specs.Soundness.{sound_rule}
 use Rattle.script.specs.Tables.{Row}
 use Rattle.script.specs.Texts.{rule_row}
-use Rattle.script.specs.declared.rules.ReadError.TheVariants.{Shape}
+use Rattle.script.specs.declared.refusals.Refusal.TheVariants.{Shape}
 use Rattle.script.proofs.Added.{Added, added_none, added_more}
 use Rattle.script.proofs.Due.{first, row_is}
 use Rattle.script.proofs.Lines.{rule_is, rule_line}
-use Rattle.script.proofs.Outcomes.{bind_is, ask_is, from_ok, not_ok}
+use Rattle.script.proofs.Outcomes.{bind_is, ask_is, from_ok}
 use Rattle.script.proofs.Parting.{end}
 
 -- a blank row is the end
@@ -28,7 +29,7 @@ module _ (states : ℕ) where
   -- what is read as rules is their lines
   pub rules_are :
       (n : ℕ) (done : List RuleContent) (rows : List Row) (all : List RuleContent) → length done ≤ 64 → rules_on n states done rows ≡ Ok all → RuleLines done rows all
-  rules_are n done [] all few e = not_ok (Shape n) all e
+  rules_are n done [] all few e = cc
   rules_are n done (row ∷ []) all few e =
       let (last, k) = ask_is (blank row) (Shape n) (Ok done) all e in
       subst (RuleLines done (row ∷ [])) (from_ok k) (rw (blank_is row last) (added_none rule_row (sound_rule states) 64 done (end ∷ []) few))
@@ -48,11 +49,11 @@ module _ (states : ℕ) where
 
   -- the lines of rules are read, up to the end
   pub rules_read :
-      states ≤ 64 → (n : ℕ) (done rs : List RuleContent) → every (sound_rule states) rs ≡ true → length (done ++ rs) ≤ 64 →
+      states ≤ 64 → (n : ℕ) (done rs : List RuleContent) → list_all (sound_rule states) rs ≡ true → length (done ++ rs) ≤ 64 →
       rules_on n states done (map rule_row rs ++ end ∷ []) ≡ Ok (done ++ rs)
   rules_read fits n done [] each few = rw append-nil
   rules_read fits n done (r ∷ rs) each few =
-      let (keeps, others) = and_parts (sound_rule states r) (every (sound_rule states) rs) each in
+      let (keeps, others) = and_parts (sound_rule states r) (list_all (sound_rule states) rs) each in
       let more = map rule_row rs ++ end ∷ [] in
       let some : 0 < length more = rw length-append (omega arith) in
       let room : length done < 64 = omega (arith, length-append done (r ∷ rs)) in

@@ -1,15 +1,14 @@
 -- Laws of reading and writing that hold of every text and every script, and texts that are refused.
-use Rattle.std.specs.Prelude.{◌≡◌, ℕ, true, List, [], ◌∷◌, map, Some, None, Ok, Err, codes, Option, Result}
+use Rattle.std.specs.Prelude.{◌≡◌, ℕ, true, List, [], ◌∷◌, map, Some, None, Ok, Err, codes, unwrap_or, Option, Result}
 use Prim.Native.String.{String}
 use Rattle.std.specs.List.{flat_map}
 use Rattle.script.specs.Contents.{Content}
 use Rattle.script.specs.Reading.{reading}
-use Rattle.script.specs.Refusals.{refusal}
+use Rattle.script.specs.Refusals.{line_of, number_of}
 use Rattle.script.specs.Soundness.{sound}
 use Rattle.script.specs.Tables.{line}
 use Rattle.script.specs.Texts.{text}
-use Rattle.script.specs.declared.rules.ReadError.{ReadError}
-use Rattle.script.specs.declared.rules.Refusal.{Refusal}
+use Rattle.script.specs.declared.refusals.Refusal.{Refusal}
 
 -- what is accepted is the text of a script, and of the one that was read
 abbrev pub AcceptedIsText : Type 0
@@ -19,16 +18,17 @@ AcceptedIsText = (bytes : List ℕ) (c : Content) → reading bytes ≡ Ok c →
 abbrev pub TextIsAccepted : Type 0
 TextIsAccepted = (c : Content) → sound c ≡ true → reading (text c) ≡ Ok c
 
-abbrev pub refused_with : Result Content ReadError → Option Refusal
+-- the number of a refusal and the line that it names, or 0
+abbrev pub refused_with : Result Content Refusal → Option (ℕ × ℕ)
 refused_with (Ok c) = None
-refused_with (Err e) = refusal e
+refused_with (Err q) = Some (number_of q, unwrap_or (line_of q) 0)
 
 -- what the text of these lines, each the list of its fields, is refused with
-abbrev pub refused : List (List String) → Option Refusal
+abbrev pub refused : List (List String) → Option (ℕ × ℕ)
 refused lines = refused_with (reading (flat_map (λ fields. line (map codes fields)) lines))
 
-abbrev pub refused_at : ℕ → ℕ → Option Refusal
-refused_at number line = Some (record { number = number; line = line })
+abbrev pub refused_at : ℕ → ℕ → Option (ℕ × ℕ)
+refused_at number line = Some (number, line)
 
 -- a number that begins with 0, a state that is not there and an act without its mark, each at its line
 abbrev pub Worked : Type 0

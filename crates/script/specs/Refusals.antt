@@ -1,19 +1,25 @@
--- The number of each refusal and the line that it names; want of memory has neither.
-use Rattle.std.specs.Prelude.{[], ◌∷◌, Some, None, codes, decimal, Option}
+-- The number of each refusal, the line that it names if it names one, and what is printed of it.
+use Rattle.std.specs.Prelude.{ℕ, [], ◌∷◌, Some, None, codes, decimal, unwrap_or, Option}
 use Rattle.script.specs.Tables.{Row}
-use Rattle.script.specs.declared.rules.ReadError.{ReadError}
-use Rattle.script.specs.declared.rules.ReadError.TheVariants.{Size, Shape, Number, Range, Letters, Sequence, Memory}
-use Rattle.script.specs.declared.rules.Refusal.{Refusal}
+use Rattle.script.specs.declared.refusals.Refusal.{Refusal}
+use Rattle.script.specs.declared.refusals.Refusal.TheVariants.{Size, Shape, Number, Range, Letters, Sequence}
 
-abbrev pub refusal : ReadError → Option Refusal
-refusal Size = Some (record { number = 11; line = 0 })
-refusal (Shape n) = Some (record { number = 12; line = n })
-refusal (Number n) = Some (record { number = 14; line = n })
-refusal (Range n) = Some (record { number = 15; line = n })
-refusal (Letters n) = Some (record { number = 16; line = n })
-refusal (Sequence n) = Some (record { number = 17; line = n })
-refusal Memory = None
+abbrev pub number_of : Refusal → ℕ
+number_of Size = 11
+number_of (Shape n) = 12
+number_of (Number n) = 14
+number_of (Range n) = 15
+number_of (Letters n) = 16
+number_of (Sequence n) = 17
 
--- the line that is printed of a refusal
+abbrev pub line_of : Refusal → Option ℕ
+line_of Size = None
+line_of (Shape n) = Some n
+line_of (Number n) = Some n
+line_of (Range n) = Some n
+line_of (Letters n) = Some n
+line_of (Sequence n) = Some n
+
+-- the line that is printed of a refusal: 0 stands for no line
 abbrev pub refusal_row : Refusal → Row
-refusal_row q = codes "refused" ∷ decimal q.number ∷ decimal q.line ∷ []
+refusal_row q = codes "refused" ∷ decimal (number_of q) ∷ decimal (unwrap_or (line_of q) 0) ∷ []

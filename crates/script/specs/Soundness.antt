@@ -1,15 +1,12 @@
 -- The rules that a script keeps: the ranges of its numbers, its marks, goals and acts.
 use Rattle.std.specs.Prelude.{ℕ, Bool, true, ◌&&◌, List, [], ◌∷◌, length, nat_le, nat_lt}
+use Rattle.std.specs.List.{list_all}
 use Rattle.script.specs.Contents.{Content, RuleContent}
 use Rattle.script.specs.declared.rules.Act.{Act}
 use Rattle.script.specs.declared.rules.Act.TheVariants.{Push, Inject, Pop, Eject}
 
 abbrev pub within : ℕ → ℕ → ℕ → Bool
 within low high n = nat_le low n && nat_le n high
-
-abbrev pub every : {X : Type 0} → (X → Bool) → List X → Bool
-every p [] = true
-every p (x ∷ xs) = p x && every p xs
 
 -- a mark is a byte from a to z
 abbrev pub is_mark : ℕ → Bool
@@ -29,16 +26,16 @@ rising (x ∷ y ∷ ys) = nat_lt x y && rising (y ∷ ys)
 
 abbrev pub sound_rule : ℕ → RuleContent → Bool
 sound_rule states r =
-    nat_lt r.from states && nat_lt r.to states && every (λ a. is_mark (mark_of a)) r.acts && nat_le (length r.acts) 4
+    nat_lt r.from states && nat_lt r.to states && list_all (λ a. is_mark (mark_of a)) r.acts && nat_le (length r.acts) 4
 
 abbrev pub sound_start : Content → Bool
-sound_start c = nat_lt c.start c.states && every is_mark c.marks && nat_le (length c.marks) c.width
+sound_start c = nat_lt c.start c.states && list_all is_mark c.marks && nat_le (length c.marks) c.width
 
 abbrev pub sound_goals : Content → Bool
-sound_goals c = every (λ g. nat_lt g c.states) c.goals && rising c.goals && nat_le (length c.goals) 8
+sound_goals c = list_all (λ g. nat_lt g c.states) c.goals && rising c.goals && nat_le (length c.goals) 8
 
 abbrev pub sound_rules : Content → Bool
-sound_rules c = every (sound_rule c.states) c.rules && nat_le (length c.rules) 64
+sound_rules c = list_all (sound_rule c.states) c.rules && nat_le (length c.rules) 64
 
 unfoldable pub sound : Content → Bool
 sound c =

@@ -1,24 +1,17 @@
 -- A text as a table: lines that are parted by line feeds, each made of fields that are parted by tabs.
-use Rattle.std.specs.Prelude.{ℕ, cond, List, [], ◌∷◌, ◌++◌, map, ◌==◌}
+use Rattle.std.specs.Prelude.{ℕ, List, [], ◌∷◌, ◌++◌, map, ◌==◌}
+use Rattle.std.specs.List.{join_with_byte, slice_split}
 
 -- a field is a list of bytes, and a row the list of a line's fields
 abbrev pub Row : Type 0
 Row = List (List ℕ)
 
--- the first part begins with one byte more
-abbrev pub longer : ℕ → List (List ℕ) → List (List ℕ)
-longer b [] = (b ∷ []) ∷ []
-longer b (p ∷ ps) = (b ∷ p) ∷ ps
-
 -- the parts between the separators: one more than there are separators
 abbrev pub parts : ℕ → List ℕ → List (List ℕ)
-parts separator [] = [] ∷ []
-parts separator (b ∷ bs) = cond (b == separator) ([] ∷ parts separator bs) (longer b (parts separator bs))
+parts separator text = slice_split (λ b. b == separator) text
 
 abbrev pub join : ℕ → List (List ℕ) → List ℕ
-join separator [] = []
-join separator (p ∷ []) = p
-join separator (p ∷ q ∷ ps) = p ++ separator ∷ join separator (q ∷ ps)
+join separator parts = join_with_byte separator parts
 
 -- the last row is what stands behind the last line feed
 unfoldable pub table : List ℕ → List Row

@@ -3,8 +3,8 @@ use Rattle.std.proofs.Common.{◌≡◌, ℕ, ◌-◌, ◌*◌, ◌<◌, ◌≤�
 use Rattle.script.specs.Fields.{◌>>=◌, ◌>>◌, ask, act_of, acts, acts_in, before}
 use Rattle.script.proofs.Letters.{acts_is, length_acts}
 use Rattle.script.specs.declared.rules.Act.{Act}
-use Rattle.script.specs.declared.rules.ReadError.{ReadError}
-use Rattle.script.specs.declared.rules.ReadError.TheVariants.{Letters}
+use Rattle.script.specs.declared.refusals.Refusal.{Refusal}
+use Rattle.script.specs.declared.refusals.Refusal.TheVariants.{Letters}
 use Rattle.std.proofs.lemmas.List.{take_all}
 use Rattle.std.proofs.lemmas.Bool.{le-leb, lt-leb}
 use Rattle.std.specs.Option.{ok_or}
@@ -38,7 +38,7 @@ module _ (f : List ℕ) (a : Act) (two : 2 ≤ length f) (is : act_of (get_or f 
 sized : (f : List ℕ) (all : List Act) → acts f ≡ Some all → length f ≡ 2 * length all
 sized f all e = ap length (acts_is f all e).0 ∙ length_acts all
 
-abbrev few : ℕ → Option (List Act) → Result (List Act) ReadError
+abbrev few : ℕ → Option (List Act) → Result (List Act) Refusal
 few n o = ok_or o (Letters n) >>= λ all. ask (leb (length all) 4) (Letters n) >> Ok all
 
 few_long : (n : ℕ) (f : List ℕ) (o : Option (List Act)) → acts f ≡ o → 8 < length f → few n o ≡ Err (Letters n)

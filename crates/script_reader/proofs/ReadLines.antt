@@ -1,31 +1,23 @@
--- What a line says, told by the readers before each of its fields.
+-- What a line says, told by its fields one after the other.
 use Rattle.std.proofs.Common.{◌≡◌, ℕ, ◌+◌, Ok, codes, refl}
 use Rattle.std.proofs.lemmas.List.{drop-drop, get_or-drop}
-use Rattle.std.specs.Prelude.{nat_lt}
-use Rattle.script.specs.Fields.{◌>>=◌, ◌>>◌, ask, field, number_in, state_in, acts_in}
-use Rattle.script.specs.Reading.{head_of, rule_of}
-use Rattle.script.specs.declared.rules.ReadError.TheVariants.{Sequence}
-use Rattle.script_reader.specs.Places.{Opened, Passed, fields_left, rows_left}
+use Rattle.script.specs.Fields.{◌>>=◌, ◌>>◌, number_in}
+use Rattle.script.specs.Reading.{head_of}
+use Rattle.script_reader.specs.Places.{Opened, Passed, rows_left}
+use Rattle.script_reader.specs.declared.field.Field.{Field}
+use Rattle.script_reader.specs.declared.line.Line.{Line}
 use Rattle.script_reader.specs.declared.reader.Reader.{Reader}
 
-pub head_read : (r r0 r1 r2 r3 : Reader) → Opened (codes "script") 5 r r0 → Passed r0 r1 → Passed r1 r2 → Passed r2 r3 →
+-- a field behind those that were passed
+pub ruleset fields_behind = (get_or-drop, drop-drop)
+
+pub head_read : (r s : Reader) (l0 l1 l2 l3 l4 : Line) (form states width depth : Field) → Opened (codes "script") 5 r s l0 → Passed l0 form l1 → Passed l1 states l2 → Passed l2 width l3 → Passed l3 depth l4 →
     head_of (r.line + 1) (rows_left r)
-    ≡ (number_in r0.line 1 1 (field 0 (fields_left r0))
-    >> (number_in r1.line 1 64 (field 0 (fields_left r1)) >>= λ states.
-    number_in r2.line 1 255 (field 0 (fields_left r2)) >>= λ width.
-    number_in r3.line 0 255 (field 0 (fields_left r3)) >>= λ depth.
+    ≡ (number_in form.line 1 1 form.bytes.now
+    >> (number_in states.line 1 64 states.bytes.now >>= λ states.
+    number_in width.line 1 255 width.bytes.now >>= λ width.
+    number_in depth.line 0 255 depth.bytes.now >>= λ depth.
     Ok (record { states = states; width = width; depth = depth })))
 unfolding head_of
-head_read r r0 r1 r2 r3 opened first second third =
-    simp (opened.row, opened.fields, opened.line, first.fields, first.line, second.fields, second.line, third.fields, third.line, get_or-drop, drop-drop) refl
-
-pub rule_read : (states count : ℕ) (r r0 r1 r2 : Reader) → Opened (codes "rule") 4 r r0 → Passed r0 r1 → Passed r1 r2 →
-    rule_of (r.line + 1) states count (rows_left r)
-    ≡ (state_in r0.line states (field 0 (fields_left r0)) >>= λ from.
-    state_in r1.line states (field 0 (fields_left r1)) >>= λ to.
-    acts_in r2.line (field 0 (fields_left r2)) >>= λ all.
-    ask (nat_lt count 64) (Sequence r2.line)
-    >> Ok (record { from = from; to = to; acts = all }))
-unfolding rule_of
-rule_read states count r r0 r1 r2 opened first second =
-    simp (opened.row, opened.fields, opened.line, first.fields, first.line, second.fields, second.line, get_or-drop, drop-drop) refl
+head_read r s l0 l1 l2 l3 l4 form states width depth opened p q v w =
+    simp (opened.row, opened.fields, opened.number, p.bytes, p.line, p.fields, p.number, q.bytes, q.line, q.fields, q.number, v.bytes, v.line, v.fields, v.number, w.bytes, w.line, get_or-drop, drop-drop) refl

@@ -1,26 +1,31 @@
--- Where a text is cut at its first separator, and how many parts it has.
-use Rattle.std.proofs.Common.{◌≡◌, ℕ, ◌+◌, ◌<◌, List, [], ◌∷◌, ◌++◌, length, get_or, take, drop, sym, refl, ap, ◌∙◌, arith}
-use Rattle.script.specs.Tables.{longer, parts}
-use Rattle.script.proofs.Parting.{Free, parts_more, parts_some}
-use Rattle.std.proofs.lemmas.List.{drop_more, take-append-drop}
-use Rattle.std.proofs.lemmas.Bool.{eq-eqb, ne_eqb}
+-- Where a text is cut at its first separator.
+use Rattle.std.proofs.Common.{◌≡◌, ℕ, ◌+◌, ◌<◌, Bool, true, false, cond, eqb, ltb, List, [], ◌∷◌, length, take, drop, Some, None, refl, ap, ◌∙◌, arith}
+use Rattle.std.specs.List.{position, position_or_len}
+use Rattle.std.proofs.lemmas.Bool.Decides.{nat_tests}
+use Rattle.std.proofs.lemmas.List.Splits.{slice_split_first, slice_split_none}
+use Rattle.std.proofs.lemmas.List.Sums.{fails_before_first}
+use Rattle.script.specs.Tables.{parts}
 
--- the separator follows only other bytes
-pub cut : (s : ℕ) (t : List ℕ) (i : ℕ) → i < length t → Free s (take i t) → get_or t i 0 ≡ s → parts s t ≡ take i t ∷ parts s (drop (i + 1) t)
-cut s t i h clear e =
-    ap (parts s) (sym (take-append-drop i t))
-    ∙ ap (λ (q : List ℕ). parts s (take i t ++ q)) (drop_more t i 0 h)
-    ∙ ap (λ (b : ℕ). parts s (take i t ++ b ∷ drop (i + 1) t)) e
-    ∙ parts_more s (take i t) (drop (i + 1) t) clear
+module _ (s : ℕ) (t : List ℕ) where
+  abbrev here : ℕ → Bool
+  here b = eqb b s
 
-longer_length : (b : ℕ) (ps : List (List ℕ)) → 0 < length ps → length (longer b ps) ≡ length ps
-longer_length b [] h = absurd (omega arith)
-longer_length b (p ∷ ps) h = refl
+  abbrev first : ℕ
+  first = position_or_len here t
 
--- a separator is one part more, any other byte none
-pub count_separator : (s : ℕ) (t : List ℕ) (i : ℕ) → i < length t → get_or t i 0 ≡ s → length (parts s (drop i t)) ≡ 1 + length (parts s (drop (i + 1) t))
-count_separator s t i h e = rw (drop_more t i 0, eq-eqb (get_or t i 0) s e) (omega arith)
+  pub whole : position here t ≡ None → parts s t ≡ t ∷ []
+  whole e = go (ltb first (length t)) refl e
+    where
+      go : (b : Bool) → ltb first (length t) ≡ b → cond b (Some first) None ≡ None → parts s t ≡ t ∷ []
+      go true h k = cc
+      go false h k = slice_split_none here t (λ k d below. fails_before_first here t k d (grind (arith, nat_tests)))
 
-pub count_other : (s : ℕ) (t : List ℕ) (i : ℕ) → i < length t → (get_or t i 0 ≡ s → ⊥) → length (parts s (drop i t)) ≡ length (parts s (drop (i + 1) t))
-count_other s t i h e =
-    rw (drop_more t i 0, ne_eqb (get_or t i 0) s e) (longer_length (get_or t i 0) (parts s (drop (i + 1) t)) (parts_some s (drop (i + 1) t)))
+  pub cut : (i : ℕ) → position here t ≡ Some i → (i < length t) × (parts s t ≡ take i t ∷ parts s (drop (i + 1) t))
+  cut i e = go (ltb first (length t)) refl e
+    where
+      go : (b : Bool) → ltb first (length t) ≡ b → cond b (Some first) None ≡ Some i → (i < length t) × (parts s t ≡ take i t ∷ parts s (drop (i + 1) t))
+      go true h k =
+          let inside : first < length t = grind (arith, nat_tests) in
+          let is : first ≡ i = cc in
+          (omega (arith, is), slice_split_first here t 0 inside ∙ ap (λ (n : ℕ). take n t ∷ parts s (drop (n + 1) t)) is)
+      go false h k = cc

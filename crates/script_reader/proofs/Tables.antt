@@ -2,9 +2,10 @@
 use Rattle.std.proofs.Common.{◌≡◌, ℕ, ◌<◌, Bool, true, false, cond, eqb, List, [], ◌∷◌, map, length, get_or, drop, Ok, Err, sym, refl, ap, ◌∙◌, arith}
 use Rattle.script.specs.Fields.{◌>>=◌, ask}
 use Rattle.script.specs.Reading.{blank, due, shaped}
-use Rattle.script.specs.Tables.{Row, longer, parts, table}
-use Rattle.script.specs.declared.rules.ReadError.{ReadError}
-use Rattle.script.specs.declared.rules.ReadError.TheVariants.{Shape}
+use Rattle.script.specs.Tables.{Row, parts, table}
+use Rattle.std.specs.List.{onto_first}
+use Rattle.script.specs.declared.refusals.Refusal.{Refusal}
+use Rattle.script.specs.declared.refusals.Refusal.TheVariants.{Shape}
 use Rattle.script.proofs.Parting.{parts_some}
 use Rattle.script_reader.specs.Places.{ended}
 use Rattle.std.proofs.lemmas.List.{length-map}
@@ -36,7 +37,7 @@ pub due_last : (n : ℕ) (word : List ℕ) (count : ℕ) (t : List ℕ) → part
 unfolding due
 due_last n word count t e = rw (table_last t e)
 
-asked : {X : Type 0} (b : Bool) (x : X) (e : ReadError) → (ask b e >>= λ _. Ok x) ≡ cond b (Ok x) (Err e)
+asked : {X : Type 0} (b : Bool) (x : X) (e : Refusal) → (ask b e >>= λ _. Ok x) ≡ cond b (Ok x) (Err e)
 asked true x e = refl
 asked false x e = refl
 
@@ -60,17 +61,17 @@ row_line t line rest e = rw (table_line t line rest e)
 pub rows_line : (t line rest : List ℕ) → parts 10 t ≡ line ∷ parts 10 rest → table rest ≡ drop 1 (table t)
 rows_line t line rest e = rw (table_line t line rest e)
 
-longer_blank : (b : ℕ) (ps : Row) → blank (longer b ps) ≡ false
-longer_blank b [] = refl
-longer_blank b (p ∷ ps) = and_right (eqb (length ((b ∷ p) ∷ ps)) 1) false refl
+onto_blank : (b : ℕ) (ps : Row) → blank (onto_first b ps) ≡ false
+onto_blank b [] = refl
+onto_blank b (p ∷ ps) = and_right (eqb (length ((b ∷ p) ∷ ps)) 1) false refl
 
 -- a row is not blank where a byte stands in it
-some_blank : (e : Bool) (b : ℕ) (ps : Row) → 0 < length ps → blank (cond e ([] ∷ ps) (longer b ps)) ≡ false
+some_blank : (e : Bool) (b : ℕ) (ps : Row) → 0 < length ps → blank (cond e ([] ∷ ps) (onto_first b ps)) ≡ false
 some_blank true b [] h = absurd (omega arith)
 some_blank true b (p ∷ ps) h = and_left (eqb (length ([] ∷ p ∷ ps)) 1) (bytes_eq [] []) (ne_eqb (length ([] ∷ p ∷ ps)) 1 (λ e. omega (arith, e)))
-some_blank false b ps h = longer_blank b ps
+some_blank false b ps h = onto_blank b ps
 
-some_ended : (e : Bool) (b : ℕ) (ps : List (List ℕ)) → 0 < length ps → ended (map (parts 9) (cond e ([] ∷ ps) (longer b ps))) ≡ false
+some_ended : (e : Bool) (b : ℕ) (ps : List (List ℕ)) → 0 < length ps → ended (map (parts 9) (cond e ([] ∷ ps) (onto_first b ps))) ≡ false
 some_ended e b [] h = absurd (omega arith)
 some_ended true b (p ∷ ps) h = refl
 some_ended false b (p ∷ []) h = some_blank (eqb b 9) b (parts 9 p) (parts_some 9 p)

@@ -1,7 +1,8 @@
 // Marks and acts as a text has them.
 ghost use Rattle.std.specs.Prelude.{◌≡◌, true, is_some, vec_items, MatchResult};
+ghost use Rattle.std.specs.List.{list_all};
 ghost use Rattle.script.specs.Fields.{act_of, acts};
-ghost use Rattle.script.specs.Soundness.{every, is_mark};
+ghost use Rattle.script.specs.Soundness.{is_mark};
 ghost use Rattle.std.specs.Option.{option_map};
 
 use script::Act;
@@ -15,14 +16,9 @@ fn is_mark(b: u8) -> bool
 
 /// Whether there are only marks in the field.
 pub(crate) fn are_marks(field: &[u8]) -> bool
-    ensures { result ≡ every is_mark field.now }
+    ensures { result ≡ list_all is_mark field.now }
 {
-    for b in field {
-        if !is_mark(*b) {
-            return false;
-        }
-    }
-    true
+    field.iter().all(|b| is_mark(*b))
 }
 
 /// The act of a letter and a mark.
@@ -42,7 +38,7 @@ fn act_of(letter: u8, mark: u8) -> Option<Act>
 }
 
 /// The acts of a field, a letter and a mark for each; none where it is not well formed.
-/// Memory is asked for only once the whole field is known to be well formed.
+/// Memory is asked for only once the whole field is known to be well formed: a loop would have to go over it twice.
 pub(crate) fn acts_of(heap: Global, field: &[u8]) -> Result<Option<Vec<Act>>, AllocError>
     ensures { MatchResult result (λ o. option_map vec_items o ≡ acts field.now) (λ _. is_some (acts field.now) ≡ true) }
 {

@@ -1,7 +1,9 @@
 // Reading script texts.
 #![tactic(auto)]
 
+mod field;
 mod letters;
+mod line;
 mod lines;
 mod numbers;
 mod parts;

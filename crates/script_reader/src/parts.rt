@@ -1,29 +1,28 @@
 // The parts of a text between separators.
-ghost use Rattle.std.specs.Prelude.{◌≡◌, ◌+◌, ◌≤◌, [], ◌∷◌, length, IfSome, MatchOption, slice_index_or};
+ghost use Rattle.std.specs.Prelude.{◌≡◌, ◌+◌, ◌≤◌, [], ◌∷◌, length, IfSome, MatchOption, position, slice_index_or, ◌==◌};
 ghost use Rattle.script.specs.Tables.{parts};
-ghost use Rattle.std.specs.Str.{bytes_eq};
+
+/// Where the byte stands first.
+fn place_of(text: &[u8], byte: u8) -> Option<usize>
+    ensures { result ≡ position (λ b. b == byte) text.now }
+{
+    text.iter().position(|b| *b == byte)
+}
 
 /// What stands before the first separator, and what stands behind it.
-pub fn split_once<'a>(text: &'a [u8], separator: u8) -> Option<(&'a [u8], &'a [u8])>
+pub fn split_once(text: &[u8], separator: u8) -> Option<(&[u8], &[u8])>
     ensures parts { MatchOption result (parts separator text.now ≡ text.now ∷ []) (λ p. parts separator text.now ≡ p.0.now ∷ parts separator p.1.now) }
     ensures shorter { IfSome result (λ p. length p.0.now + 1 + length p.1.now ≡ length text.now) }
 {
-    for (i, b) in text.iter().enumerate() {
-        if *b == separator {
-            return Some((&text[0..i], &text[i + 1..]));
-        }
-    }
-    None
+    let at = place_of(text, separator)?;
+    Some((&text[..at], &text[at + 1..]))
 }
 
 /// The part before the first separator.
-pub(crate) fn first_part<'a>(text: &'a [u8], separator: u8) -> &'a [u8]
+pub(crate) fn first_part(text: &[u8], separator: u8) -> &[u8]
     ensures { result.now ≡ slice_index_or (parts separator text.now) 0 [] }
 {
-    match split_once(text, separator) {
-        Some((part, _)) => part,
-        None => text,
-    }
+    split_once(text, separator).map_or(text, |(part, _)| part)
 }
 
 /// How many parts there are.
@@ -31,18 +30,5 @@ pub(crate) fn count_parts(text: &[u8], separator: u8) -> usize
     requires { length text.now ≤ 4096 }
     ensures { result ≡ length (parts separator text.now) }
 {
-    let mut count = 1;
-    for b in text {
-        if *b == separator {
-            count += 1;
-        }
-    }
-    count
-}
-
-/// Whether the two have the same bytes.
-pub(crate) fn same(a: &[u8], b: &[u8]) -> bool
-    ensures { result ≡ bytes_eq a.now b.now }
-{
-    a == b
+    1 + text.iter().filter(|b| **b == separator).count()
 }

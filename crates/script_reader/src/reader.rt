@@ -1,17 +1,18 @@
 // A place in a script text.
 ghost use Rattle.std.specs.Prelude.{◌+◌, ◌≤◌, length};
 
-mod fields;
+use std::alloc::Global;
+
 mod lines;
 
-/// A text of at most 4,096 bytes, read forward line by line and field by field.
+/// A text of at most 4,096 bytes, read forward line by line.
 #[derive(Drop)]
 pub(crate) struct Reader<'a> {
-    /// What stands behind the line that is being read.
+    /// Where what is read is kept.
+    pub(crate) heap: Global,
+    /// What stands behind the lines that were read.
     rest: &'a [u8],
-    /// What is left of that line, from the next field on; none behind its last field.
-    fields: Option<&'a [u8]>,
-    /// The number of that line; 0 before the first.
+    /// How many lines that were.
     line: u16,
     ghost short: { line + length rest.now ≤ 4096 },
 }

@@ -8,17 +8,17 @@ ghost use Rattle.script_reader.specs.Places.{rows_left};
 
 use crate::lines::{read_goal, read_head, read_rule, read_start};
 use crate::reader::Reader;
-use script::{ReadError, Rule, Script};
+use script::{ReadError, Refusal, Rule, Script};
 use std::alloc::Global;
 
 /// The longest text that is read, in bytes.
 pub const LONGEST: usize = 4096;
 
 /// The goals, as long as lines begin with their word.
-fn read_goals(heap: Global, reader: &mut Reader, states: u8) -> Result<Vec<u8>, ReadError>
+fn read_goals(reader: &mut Reader, states: u8) -> Result<Vec<u8>, ReadError>
     ensures { Answers (goals_on (reader.old.line + 1) states [] (rows_left reader.old)) (goals_meaning reader.new) result }
 {
-    let mut goals = Vec::new(heap);
+    let mut goals = Vec::new(reader.heap);
     while reader.begins(b"goal") {
         let goal = read_goal(reader, states, goals.as_slice())?;
         goals.push(goal)?;
@@ -27,26 +27,27 @@ fn read_goals(heap: Global, reader: &mut Reader, states: u8) -> Result<Vec<u8>, 
 }
 
 /// The rules, up to the end of the text.
-fn read_rules(heap: Global, reader: &mut Reader, states: u8) -> Result<Vec<Rule>, ReadError>
+fn read_rules(reader: &mut Reader, states: u8) -> Result<Vec<Rule>, ReadError>
     ensures { Answers (rules_on (reader.old.line + 1) states [] (rows_left reader.old)) rule_contents result }
 {
-    let mut rules = Vec::new(heap);
+    let mut rules = Vec::new(reader.heap);
     while !reader.at_end() {
-        let rule = read_rule(heap, reader, states, rules.len())?;
+        let rule = read_rule(reader, states, rules.len())?;
         rules.push(rule)?;
     }
     Ok(rules)
 }
 
 /// The script of the lines that stand behind the reader.
-fn read_script(heap: Global, mut reader: Reader) -> Result<Script, ReadError>
+#[tactic(auto, using(crate::proofs::ReadLines::fields_behind), unfolding(script::specs::Reading::read_rows))]
+fn read_script(mut reader: Reader) -> Result<Script, ReadError>
     requires { reader.line ≡ 0 }
     ensures { Answers (read_rows (rows_left reader.entry)) content result }
 {
     let head = read_head(&mut reader)?;
-    let start = read_start(heap, &mut reader, head.states, head.width)?;
-    let goals = read_goals(heap, &mut reader, head.states)?;
-    let rules = read_rules(heap, &mut reader, head.states)?;
+    let start = read_start(&mut reader, head.states, head.width)?;
+    let goals = read_goals(&mut reader, head.states)?;
+    let rules = read_rules(&mut reader, head.states)?;
     Ok(Script {
         states: head.states,
         width: head.width,
@@ -65,9 +66,9 @@ pub fn parse(heap: Global, bytes: &[u8]) -> Result<Script, ReadError>
     ensures sized { Sized bytes.now result }
 {
     if bytes.is_empty() || bytes.len() > LONGEST {
-        return Err(ReadError::Size);
+        return Err(Refusal::Size.into());
     }
-    read_script(heap, Reader::new(bytes))
+    read_script(Reader::new(heap, bytes))
 }
 
 /// Puts the script of a text in the place of another, which stays as it was where the text is refused.

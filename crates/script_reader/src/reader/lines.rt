@@ -7,32 +7,34 @@ ghost use Rattle.script_reader.specs.Places.{Opened, ended, first_row, rows_left
 ghost use Rattle.std.specs.Str.{bytes_eq};
 
 use super::Reader;
-use crate::parts::{count_parts, first_part, same, split_once};
-use script::ReadError;
+use crate::line::Line;
+use crate::parts::{count_parts, first_part, split_once};
+use script::Refusal;
+use std::alloc::Global;
 
 /// Whether the line begins with the word and has the number of fields.
 fn has_shape(line: &[u8], word: &[u8], count: usize) -> bool
     requires { length line.now ≤ 4096 }
     ensures { result ≡ shaped word.now count (parts 9 line.now) }
 {
-    same(first_part(line, b'\t'), word) && count_parts(line, b'\t') == count
+    first_part(line, b'\t') == word && count_parts(line, b'\t') == count
 }
 
 impl<'a> Reader<'a> {
     /// A reader before the first line.
-    pub(crate) fn new(text: &'a [u8]) -> Reader<'a>
+    pub(crate) fn new(heap: Global, text: &'a [u8]) -> Reader<'a>
         requires { length text.now ≤ 4096 }
         ensures rows { rows_left result ≡ table text.now }
         ensures line { result.line ≡ 0 }
     {
         Reader {
+            heap,
             rest: text,
-            fields: None,
             line: 0,
         }
     }
 
-    /// Whether nothing stands behind the line.
+    /// Whether nothing is left.
     pub(crate) fn at_end(&self) -> bool
         ensures { result ≡ ended (rows_left self.now) }
     {
@@ -43,31 +45,24 @@ impl<'a> Reader<'a> {
     pub(crate) fn begins(&self, word: &[u8]) -> bool
         ensures { result ≡ bytes_eq (field 0 (first_row self.now)) word.now }
     {
-        same(first_part(first_part(self.rest, b'\n'), b'\t'), word)
+        first_part(first_part(self.rest, b'\n'), b'\t') == word
     }
 
-    /// Goes on to the next line, which is to have its line feed, the word and the number of fields, and past the word.
-    pub(crate) fn next_line(&mut self, word: &[u8], count: usize) -> Result<(), ReadError>
-        ensures { MatchResult result (λ _. Opened word.now count self.old self.new) (λ e. due (self.old.line + 1) word.now count (rows_left self.old) ≡ Err e) }
+    /// The next line behind its word; it is to have its line feed, the word and the number of fields.
+    pub(crate) fn next_line(&mut self, word: &[u8], count: usize) -> Result<Line<'a>, Refusal>
+        ensures { MatchResult result (λ line. Opened word.now count self.old self.new line) (λ q. due (self.old.line + 1) word.now count (rows_left self.old) ≡ Err q) }
     {
         let number = self.line + 1;
-        let Some((line, rest)) = split_once(self.rest, b'\n') else {
-            return Err(ReadError::Shape(number));
+        let Some((text, rest)) = split_once(self.rest, b'\n') else {
+            return Err(Refusal::Shape(number));
         };
-        if !has_shape(line, word, count) {
-            return Err(ReadError::Shape(number));
+        if !has_shape(text, word, count) {
+            return Err(Refusal::Shape(number));
         }
         self.rest = rest;
         self.line = number;
-        self.fields = Some(line);
-        self.field();
-        Ok(())
-    }
-
-    /// The number of the line that is being read.
-    pub(crate) fn line(&self) -> u16
-        ensures { result ≡ self.now.line }
-    {
-        self.line
+        let mut line = Line::new(text, number);
+        line.field();
+        Ok(line)
     }
 }

@@ -1,8 +1,7 @@
-use Rattle.std.proofs.Common.{◌≡◌, ℕ, true, false, length, Err, arith}
+use Rattle.std.proofs.Common.{◌≡◌, true, false, length, Err, arith}
 use Rattle.script.specs.Reading.{read_rows, reading}
 use Rattle.script.specs.Scripts.{content}
 use Rattle.script.specs.Soundness.{within}
-use Rattle.script.specs.declared.rules.ReadError.TheVariants.{Size}
 use Rattle.script_reader.specs.Answers.{Answers}
 use Rattle.script_reader.specs.Places.{rows_left}
 use Rattle.script_reader.proofs.Exactly.{exactly, read_size, refused_size, size_is_right}
@@ -12,11 +11,11 @@ use Rattle.script_reader.proofs.reading.parse.Goals as goal
 pub returns-then-is_empty : goal.returns-then-is_empty
 returns-then-is_empty c =
     let outside : within 1 4096 (length c.args.bytes.now) ≡ false = grind (arith, nat_tests, c.is_empty.ensures, c.then-is_empty.either) in
-    let refused = refused_size c.args.bytes.now outside in
+    let answer : Answers (reading c.args.bytes.now) content (Err c.into.result) = rw c.into.ensures (refused_size c.args.bytes.now outside) in
     record {
-      answer = λ _. refused;
-      exact = exactly c.args.bytes.now (Err Size) (λ _. refused);
-      sized = λ other. let z : ◌≡◌ {A = ℕ} 0 1 = cc in absurd (omega (arith, z));
+      answer = answer;
+      exact = exactly c.args.bytes.now (Err c.into.result) answer;
+      sized = rw c.into.ensures tt;
     }
 
 pub returns : goal.returns
