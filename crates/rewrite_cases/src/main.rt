@@ -8,7 +8,7 @@ use std::fs;
 /// The answer that is due: the file NAME.refused where there is one, or else the text itself.
 fn due(rt: &HostRuntime, name: &str, text: &[u8]) -> anyhow::Result<Vec<u8>> {
     let path = format!(in rt.alloc(); "{name}.refused")?;
-    match fs::read(rt, path.as_str()) {
+    match fs::read(rt, &path) {
         Ok(line) => Ok(line),
         Err(_) => Ok(text.to_vec(rt.alloc())?),
     }
@@ -17,28 +17,24 @@ fn due(rt: &HostRuntime, name: &str, text: &[u8]) -> anyhow::Result<Vec<u8>> {
 fn check_case(rt: &HostRuntime, name: &str) -> anyhow::Result<bool> {
     let heap = rt.alloc();
     let path = format!(in heap; "{name}.script")?;
-    let text = fs::read(rt, path.as_str())?;
-    let expected = due(rt, name, text.as_slice())?;
+    let text = fs::read(rt, &path)?;
+    let expected = due(rt, name, &text)?;
     let mut buffer = vec![in heap; 0u8; LONGEST]?;
-    match rewrite(heap, text.as_slice(), buffer.as_mut_slice()) {
-        Ok(count) => buffer.truncate(count),
-        Err(_) => return Ok(false),
-    }
-    Ok(buffer.as_slice() == expected.as_slice())
+    let Ok(count) = rewrite(heap, &text, &mut buffer) else {
+        return Ok(false);
+    };
+    buffer.truncate(count);
+    Ok(buffer == expected)
 }
 
-fn run(rt: &HostRuntime) -> anyhow::Result<()> {
-    let names = fs::read_to_string(rt, "cases.txt")?;
-    for name in names.as_str().lines() {
-        if check_case(rt, name)? {
+fn main(rt: HostRuntime) -> anyhow::Result<()> {
+    let names = fs::read_to_string(&rt, "cases.txt")?;
+    for name in names.lines() {
+        if check_case(&rt, name)? {
             println!(rt; "{name}: as it should be")?;
         } else {
             println!(rt; "{name}: DIFFERS")?;
         }
     }
     Ok(())
-}
-
-fn main(rt: HostRuntime) -> anyhow::Result<()> {
-    run(&rt)
 }

@@ -12,33 +12,33 @@ use crate::buffers::{WriteError, copy_whole};
 use script::{Act, Rule, Script};
 use std::alloc::{AllocError, Global};
 
-fn put_head(heap: Global, out: &mut Vec<u8>, script: &Script) -> Result<(), AllocError>
+fn put_head(out: &mut Vec<u8>, script: &Script) -> Result<(), AllocError>
     ensures { OnOk result (out.new.items ≡ out.old.items ++ line (head_row (content script.now))) }
 {
-    let states = script.states;
-    let width = script.width;
-    let depth = script.depth;
-    let head = format!(in heap; "script\t1\t{states}\t{width}\t{depth}\n")?;
+    let head = format!(in *out.allocator();
+        "script\t1\t{}\t{}\t{}\n",
+        script.states, script.width, script.depth
+    )?;
     out.extend_from_slice(head.as_bytes())?;
     Ok(())
 }
 
-fn put_start(heap: Global, out: &mut Vec<u8>, script: &Script) -> Result<(), AllocError>
+#[tactic(auto, using(std::proofs::Common::append_assoc))]
+fn put_start(out: &mut Vec<u8>, script: &Script) -> Result<(), AllocError>
     ensures { OnOk result (out.new.items ≡ out.old.items ++ line (start_row (content script.now))) }
 {
-    let start = script.start;
-    let state = format!(in heap; "start\t{start}\t")?;
+    let state = format!(in *out.allocator(); "start\t{}\t", script.start)?;
     out.extend_from_slice(state.as_bytes())?;
-    out.extend_from_slice(script.marks.as_slice())?;
+    out.extend_from_slice(&script.marks)?;
     out.push(b'\n')?;
     Ok(())
 }
 
-fn put_goals(heap: Global, out: &mut Vec<u8>, goals: &[u8]) -> Result<(), AllocError>
+fn put_goals(out: &mut Vec<u8>, goals: &[u8]) -> Result<(), AllocError>
     ensures { OnOk result (out.new.items ≡ out.old.items ++ flat_map (λ g. line (goal_row g)) goals.now) }
 {
     for goal in goals {
-        let row = format!(in heap; "goal\t{goal}\n")?;
+        let row = format!(in *out.allocator(); "goal\t{goal}\n")?;
         out.extend_from_slice(row.as_bytes())?;
     }
     Ok(())
@@ -64,23 +64,22 @@ fn put_acts(out: &mut Vec<u8>, acts: &[Act]) -> Result<(), AllocError>
     Ok(())
 }
 
-fn put_rule(heap: Global, out: &mut Vec<u8>, rule: &Rule) -> Result<(), AllocError>
+#[tactic(auto, using(std::proofs::Common::append_assoc))]
+fn put_rule(out: &mut Vec<u8>, rule: &Rule) -> Result<(), AllocError>
     ensures { OnOk result (out.new.items ≡ out.old.items ++ line (rule_row (rule_content rule.now))) }
 {
-    let from = rule.from;
-    let to = rule.to;
-    let states = format!(in heap; "rule\t{from}\t{to}\t")?;
+    let states = format!(in *out.allocator(); "rule\t{}\t{}\t", rule.from, rule.to)?;
     out.extend_from_slice(states.as_bytes())?;
-    put_acts(out, rule.acts.as_slice())?;
+    put_acts(out, &rule.acts)?;
     out.push(b'\n')?;
     Ok(())
 }
 
-fn put_rules(heap: Global, out: &mut Vec<u8>, rules: &[Rule]) -> Result<(), AllocError>
+fn put_rules(out: &mut Vec<u8>, rules: &[Rule]) -> Result<(), AllocError>
     ensures { OnOk result (out.new.items ≡ out.old.items ++ flat_map (λ x. line (rule_row (rule_content x))) rules.now) }
 {
     for rule in rules {
-        put_rule(heap, out, rule)?;
+        put_rule(out, rule)?;
     }
     Ok(())
 }
@@ -91,10 +90,10 @@ pub fn render(heap: Global, script: &Script) -> Result<Vec<u8>, AllocError>
     ensures accepted { IfOk result (λ out. reading out.items ≡ Ok (content script.now)) }
 {
     let mut out = Vec::new(heap);
-    put_head(heap, &mut out, script)?;
-    put_start(heap, &mut out, script)?;
-    put_goals(heap, &mut out, script.goals.as_slice())?;
-    put_rules(heap, &mut out, script.rules.as_slice())?;
+    put_head(&mut out, script)?;
+    put_start(&mut out, script)?;
+    put_goals(&mut out, &script.goals)?;
+    put_rules(&mut out, &script.rules)?;
     Ok(out)
 }
 
@@ -103,5 +102,5 @@ pub fn write(script: &Script, heap: Global, buffer: &mut [u8]) -> Result<usize, 
     ensures { Written (text (content script.now)) buffer.old buffer.new result }
 {
     let text = render(heap, script)?;
-    copy_whole(text.as_slice(), buffer)
+    copy_whole(&text, buffer)
 }

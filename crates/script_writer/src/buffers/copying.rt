@@ -24,6 +24,6 @@ pub fn copy_whole(bytes: &[u8], buffer: &mut [u8]) -> Result<usize, WriteError>
     if count > buffer.len() {
         return Err(WriteError::Short);
     }
-    buffer[0..count].copy_from_slice(bytes);
+    buffer[..count].copy_from_slice(bytes);
     Ok(count)
 }
