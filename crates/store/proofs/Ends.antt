@@ -1,10 +1,7 @@
 -- The ends of a list are items at places.
-use Rattle.std.proofs.Common.{◌≡◌, ℕ, zero, suc, ◌+◌, ◌<◌, List, [], ◌∷◌, length, None, Ok, Err, Option, Result, refl, ◌∙◌, arith}
+use Rattle.std.proofs.Common.{◌≡◌, ℕ, zero, suc, ◌+◌, ◌<◌, List, [], ◌∷◌, length, None, IsSome, refl, arith}
 use Rattle.std.specs.List.{slice_get}
-use Rattle.store.specs.Changes.{Shown}
 use Rattle.store.specs.Deques.{first, last}
-use Rattle.store.specs.Meanings.{Meaning}
-use Rattle.store_faults.specs.declared.faults.Fault.{Fault}
 
 module _ {T : Type 0} where
   pub first_nth : (l : List T) → slice_get l 0 ≡ first l
@@ -22,11 +19,7 @@ module _ {T : Type 0} where
   last_none [] e = refl
   last_none (x ∷ xs) e = absurd (omega arith)
 
-  pub last_some : (l : List T) → 0 < length l → last l ≡ None → ⊥
-  last_some [] h e = omega arith
-  last_some (x ∷ []) h e = let z : ◌≡◌ {A = ℕ} 0 1 = cc in omega arith
-  last_some (x ∷ y ∷ ys) h e = last_some (y ∷ ys) (omega arith) e
-
-  pub shown_as : (m : Meaning T) (v : ℕ) (x y : Option T) (r : Result (Option T) Fault) → x ≡ y → Shown m v x r → Shown m v y r
-  shown_as m v x y (Ok z) e h = (h.0, h.1 ∙ e)
-  shown_as m v x y (Err f) e h = h
+  pub last_some : (l : List T) → 0 < length l → IsSome (last l)
+  last_some [] h = absurd (omega arith)
+  last_some (x ∷ []) h = refl
+  last_some (x ∷ y ∷ ys) h = last_some (y ∷ ys) (omega arith)

@@ -1,23 +1,18 @@
 -- What holds after any list of calls.
-use Rattle.std.proofs.Common.{◌≡◌, ℕ, ◌+◌, ◌<◌, ◌≤◌, Bool, true, false, cond, List, [], ◌∷◌, ◌++◌, map, length, get_or, take, Some, None, Option, sym, refl, ap, ◌∙◌, subst, arith}
+use Rattle.std.proofs.Common.{◌≡◌, ℕ, ◌+◌, ◌<◌, ◌≤◌, Bool, true, false, List, [], ◌∷◌, ◌++◌, map, length, get_or, take, refl, ap, ◌∙◌, arith}
+use Rattle.std.proofs.lemmas.Bool.Decides.{nat_tests}
 use Rattle.std.proofs.lemmas.List.{length_push, map_push, take_all, take_more}
 use Rattle.store.proofs.Pledges.{accounted}
-use Rattle.store.specs.Calls.{Slots, Answered, Carries, slot_at, free, reservation_in, unless, in_slot, answer_to, reply}
-use Rattle.store_faults.specs.Faults.{Refusal}
+use Rattle.store.specs.Calls.{Slots, Answered, Carries, reply}
 use Rattle.store.specs.History.{Fed, fed, grown, told, tellings}
 use Rattle.store.specs.Kinds.{Chains}
 use Rattle.store.specs.Meanings.{Meaning}
-use Rattle.store.specs.Questions.{question_refusal, change_refusal, change_under_refusal, reserve_refusal, close_refusal}
 use Rattle.store.specs.Replays.{feeds, pledged, Runs, none, more, Replayed}
-use Rattle.store.specs.Replies.{Reply, reserved, closed, no_slot, reply_of, accepts, accepted, of_lists}
-use Rattle.store.specs.declared.calls.Answer.{Answer}
+use Rattle.store.specs.Replies.{Outcome, reply_of, accepts, accepted, of_lists}
 use Rattle.store.specs.declared.calls.Call.{Call}
 use Rattle.store.specs.declared.calls.Call.TheVariants.{Ask, Make, MakeUnder, Reserve, Close}
-use Rattle.store.specs.declared.calls.Held.{Held}
-use Rattle.store.specs.declared.calls.Question.{Question}
 use Rattle.store.specs.declared.calls.Question.TheVariants.{Longest, Number, Credit, Promised, Length, Item, Front, Back}
 use Rattle.store.specs.declared.changes.Change.{Change}
-use Rattle.store.specs.declared.reservations.Reservation.{Reservation}
 
 -- one call more
 module _ {T : Type 0} where
@@ -27,118 +22,80 @@ module _ {T : Type 0} where
 
   tellings_push : (vs : List (List T)) (fs : List (Fed T)) (f : Fed T) → tellings vs (fs ++ f ∷ []) ≡ tellings vs fs ++ told (grown vs fs) f.0 f.1 ∷ []
   tellings_push vs [] f = refl
-  tellings_push vs (e ∷ fs) f = ap (λ l. told vs e.0 e.1 ∷ l) (tellings_push (fed vs e.0 e.1) fs f)
+  tellings_push vs (e ∷ fs) f = rw (tellings_push (fed vs e.0 e.1) fs f)
 
-  feeds_push : (cs : List (Call T)) (bs : List (Answer T)) (c : Call T) (b : Answer T) → length bs ≡ length cs → feeds (cs ++ c ∷ []) (bs ++ b ∷ []) ≡ feeds cs bs ++ (c, accepted b) ∷ []
+  feeds_push : (cs : List (Call T)) (bs : List (Outcome T)) (c : Call T) (b : Outcome T) → length bs ≡ length cs → feeds (cs ++ c ∷ []) (bs ++ b ∷ []) ≡ feeds cs bs ++ (c, accepted b) ∷ []
   feeds_push [] [] c b e = refl
   feeds_push [] (x ∷ bs) c b e = absurd (omega arith)
   feeds_push (y ∷ cs) [] c b e = absurd (omega arith)
-  feeds_push (y ∷ cs) (x ∷ bs) c b e = ap (λ l. (y, accepted x) ∷ l) (feeds_push cs bs c b (omega arith))
+  feeds_push (y ∷ cs) (x ∷ bs) c b e = rw (feeds_push cs bs c b (omega arith))
 
 -- what is answered of lists is what the lists tell
 module _ {T : Type 0} where
-  refused_tells : (vs : List (List T)) (c : Call T) → told vs c false ≡ None
-  refused_tells vs (Ask q) = refl
-  refused_tells vs (Make v d) = refl
-  refused_tells vs (MakeUnder i v d) = refl
-  refused_tells vs (Reserve i n) = refl
-  refused_tells vs (Close i) = refl
-
-  unless_tells : (vs : List (List T)) (c : Call T) (q : Option Refusal) (r : Reply T) → accepts r ≡ true → of_lists r ≡ told vs c true → of_lists (unless q r) ≡ told vs c (accepts (unless q r))
-  unless_tells vs c None r e h = h ∙ ap (told vs c) (sym e)
-  unless_tells vs c (Some f) r e h = sym (refused_tells vs c)
-
-  asked_tells : (m : Meaning T) (q : Question) → of_lists (answer_to m q) ≡ told m.versions (Ask q) (accepts (answer_to m q))
-  asked_tells m Longest = refl
-  asked_tells m Number = refl
-  asked_tells m Credit = refl
-  asked_tells m Promised = refl
-  asked_tells m (Length v) = unless_tells m.versions (Ask (Length v)) (question_refusal m v) _ refl refl
-  asked_tells m (Item v place) = unless_tells m.versions (Ask (Item v place)) (question_refusal m v) _ refl refl
-  asked_tells m (Front v) = unless_tells m.versions (Ask (Front v)) (question_refusal m v) _ refl refl
-  asked_tells m (Back v) = unless_tells m.versions (Ask (Back v)) (question_refusal m v) _ refl refl
-
-  in_slot_tells : (vs : List (List T)) (c : Call T) (o : Option Held) (f : Reservation → Reply T) → ((r : Reservation) → of_lists (f r) ≡ told vs c (accepts (f r))) → of_lists (in_slot o f) ≡ told vs c (accepts (in_slot o f))
-  in_slot_tells vs c None f h = sym (refused_tells vs c)
-  in_slot_tells vs c (Some held) f h = h (reservation_in held)
-
-  cond_tells : (vs : List (List T)) (c : Call T) (b : Bool) (r : Reply T) → of_lists r ≡ told vs c (accepts r) → of_lists (cond b r no_slot) ≡ told vs c (accepts (cond b r no_slot))
-  cond_tells vs c true r h = h
-  cond_tells vs c false r h = sym (refused_tells vs c)
-
   reply_tells : (m : Meaning T) (p : Slots) (c : Call T) → of_lists (reply m p c) ≡ told m.versions c (accepts (reply m p c))
-  reply_tells m p (Ask q) = asked_tells m q
-  reply_tells m p (Make v d) = unless_tells m.versions (Make v d) (change_refusal m v d) _ refl refl
-  reply_tells m p (MakeUnder i v d) =
-      in_slot_tells m.versions (MakeUnder i v d) (slot_at p i) _ (λ r. unless_tells m.versions (MakeUnder i v d) (change_under_refusal m r v d) _ refl refl)
-  reply_tells m p (Reserve i n) =
-      cond_tells m.versions (Reserve i n) (free p i) _ (unless_tells m.versions (Reserve i n) (reserve_refusal m n) reserved refl refl)
-  reply_tells m p (Close i) =
-      in_slot_tells m.versions (Close i) (slot_at p i) _ (λ r. unless_tells m.versions (Close i) (close_refusal m r) closed refl refl)
+  reply_tells m p (Ask Longest) = refl
+  reply_tells m p (Ask Number) = refl
+  reply_tells m p (Ask Credit) = refl
+  reply_tells m p (Ask Promised) = refl
+  reply_tells m p (Ask (Length v)) = grind (arith, nat_tests)
+  reply_tells m p (Ask (Item v place)) = grind (arith, nat_tests)
+  reply_tells m p (Ask (Front v)) = grind (arith, nat_tests)
+  reply_tells m p (Ask (Back v)) = grind (arith, nat_tests)
+  reply_tells m p (Make v d) = grind (arith, nat_tests)
+  reply_tells m p (MakeUnder i v d) = grind (arith, nat_tests)
+  reply_tells m p (Reserve i n) = grind (arith, nat_tests)
+  reply_tells m p (Close i) = grind (arith, nat_tests)
 
-  answer_tells : (m : Meaning T) (p : Slots) (c : Call T) (a : Answer T) → reply_of a ≡ reply m p c → of_lists (reply_of a) ≡ told m.versions c (accepted a)
-  answer_tells m p c a e = ap of_lists e ∙ reply_tells m p c ∙ ap (λ r. told m.versions c (accepts r)) (sym e)
+  answer_tells : (m : Meaning T) (p : Slots) (c : Call T) (a : Outcome T) → reply_of a ≡ reply m p c → of_lists (reply_of a) ≡ told m.versions c (accepted a)
+  answer_tells m p c a e = rw e (reply_tells m p c)
 
 -- any kind of store
 module _ {S T : Type 0} (goes : S → ℕ → Change T → S → Type 0) (grows : S → S → Type 0) where
-  left_grows : Chains grows → (s t : S) → t ≡ s → grows s t
-  left_grows chain s t e = subst (grows s) (sym e) (chain.same s)
-
   carried_grows : Chains grows → (s : S) (c : Call T) (b : Bool) (t : S) → Carries goes grows s c b t → grows s t
-  carried_grows chain s (Ask q) true t h = left_grows chain s t h
+  carried_grows chain s c false t h = rw h (chain.same s)
+  carried_grows chain s (Ask q) true t h = rw h (chain.same s)
   carried_grows chain s (Make v d) true t h = h.1
   carried_grows chain s (MakeUnder i v d) true t h = h.1
   carried_grows chain s (Reserve i n) true t h = h.1
   carried_grows chain s (Close i) true t h = h.1
-  carried_grows chain s (Ask q) false t h = left_grows chain s t h
-  carried_grows chain s (Make v d) false t h = left_grows chain s t h
-  carried_grows chain s (MakeUnder i v d) false t h = left_grows chain s t h
-  carried_grows chain s (Reserve i n) false t h = left_grows chain s t h
-  carried_grows chain s (Close i) false t h = left_grows chain s t h
 
 module _ {S T : Type 0} {meaning : S → Meaning T} {goes : S → ℕ → Change T → S → Type 0} {grows : S → S → Type 0} where
   module _ {s : S} {p : Slots} where
-    runs_length : {cs : List (Call T)} {bs : List (Answer T)} {t : S} {q : Slots} → Runs meaning goes grows s p cs bs t q → length bs ≡ length cs
+    runs_length : {cs : List (Call T)} {bs : List (Outcome T)} {t : S} {q : Slots} → Runs meaning goes grows s p cs bs t q → length bs ≡ length cs
     runs_length none = refl
     runs_length (more {cs} {bs} {r} {o} {c} {a} before answered carried) = omega (arith, runs_length before, length_push cs c, length_push bs a)
 
-    runs_number : {cs : List (Call T)} {bs : List (Answer T)} {t : S} {q : Slots} → Runs meaning goes grows s p cs bs t q → (meaning t).number ≡ (meaning s).number
+    runs_number : {cs : List (Call T)} {bs : List (Outcome T)} {t : S} {q : Slots} → Runs meaning goes grows s p cs bs t q → (meaning t).number ≡ (meaning s).number
     runs_number none = refl
     runs_number (more before answered carried) = answered.number ∙ runs_number before
 
-    runs_longest : {cs : List (Call T)} {bs : List (Answer T)} {t : S} {q : Slots} → Runs meaning goes grows s p cs bs t q → (meaning t).longest ≡ (meaning s).longest
+    runs_longest : {cs : List (Call T)} {bs : List (Outcome T)} {t : S} {q : Slots} → Runs meaning goes grows s p cs bs t q → (meaning t).longest ≡ (meaning s).longest
     runs_longest none = refl
     runs_longest (more before answered carried) = answered.longest ∙ runs_longest before
 
-    runs_versions : {cs : List (Call T)} {bs : List (Answer T)} {t : S} {q : Slots} → Runs meaning goes grows s p cs bs t q → (meaning t).versions ≡ grown (meaning s).versions (feeds cs bs)
+    runs_versions : {cs : List (Call T)} {bs : List (Outcome T)} {t : S} {q : Slots} → Runs meaning goes grows s p cs bs t q → (meaning t).versions ≡ grown (meaning s).versions (feeds cs bs)
     runs_versions none = refl
     runs_versions (more {cs} {bs} {r} {o} {c} {a} before answered carried) =
-        let vs = (meaning s).versions in
-        answered.versions ∙ ap (λ l. fed l c (accepted a)) (runs_versions before)
-        ∙ sym (ap (grown vs) (feeds_push cs bs c a (runs_length before)) ∙ grown_push vs (feeds cs bs) (c, accepted a))
+        rw (feeds_push cs bs c a (runs_length before), grown_push, ← runs_versions before) answered.versions
 
-    runs_told : {cs : List (Call T)} {bs : List (Answer T)} {t : S} {q : Slots} → Runs meaning goes grows s p cs bs t q → map (λ b. of_lists (reply_of b)) bs ≡ tellings (meaning s).versions (feeds cs bs)
+    runs_told : {cs : List (Call T)} {bs : List (Outcome T)} {t : S} {q : Slots} → Runs meaning goes grows s p cs bs t q → map (λ b. of_lists (reply_of b)) bs ≡ tellings (meaning s).versions (feeds cs bs)
     runs_told none = refl
     runs_told (more {cs} {bs} {r} {o} {c} {a} before answered carried) =
-        let vs = (meaning s).versions in
-        map_push (λ b. of_lists (reply_of b)) bs a
-        ∙ ap (λ l. l ++ of_lists (reply_of a) ∷ []) (runs_told before)
-        ∙ ap (λ x. tellings vs (feeds cs bs) ++ x ∷ []) (answer_tells (meaning r) o c a answered.answer ∙ ap (λ l. told l c (accepted a)) (runs_versions before))
-        ∙ sym (ap (tellings vs) (feeds_push cs bs c a (runs_length before)) ∙ tellings_push vs (feeds cs bs) (c, accepted a))
+        rw (map_push, feeds_push cs bs c a (runs_length before), tellings_push, runs_told before, ← runs_versions before, answer_tells (meaning r) o c a answered.answer)
 
-    runs_promised : {cs : List (Call T)} {bs : List (Answer T)} {t : S} {q : Slots} → Runs meaning goes grows s p cs bs t q → (meaning t).promised + pledged (meaning s).number p ≡ (meaning s).promised + pledged (meaning s).number q
+    runs_promised : {cs : List (Call T)} {bs : List (Outcome T)} {t : S} {q : Slots} → Runs meaning goes grows s p cs bs t q → (meaning t).promised + pledged (meaning s).number p ≡ (meaning s).promised + pledged (meaning s).number q
     runs_promised none = refl
     runs_promised (more {cs} {bs} {r} {o} {c} {a} {t} {q} before answered carried) =
         let earlier = runs_promised before in
         let last : (meaning t).promised + pledged (meaning s).number o ≡ (meaning r).promised + pledged (meaning s).number q = rw (runs_number before) at (accounted (meaning r) o c (meaning t) q a answered) in
         omega arith
 
-    runs_grow : Chains grows → {cs : List (Call T)} {bs : List (Answer T)} {t : S} {q : Slots} → Runs meaning goes grows s p cs bs t q → grows s t
+    runs_grow : Chains grows → {cs : List (Call T)} {bs : List (Outcome T)} {t : S} {q : Slots} → Runs meaning goes grows s p cs bs t q → grows s t
     runs_grow chain none = chain.same s
     runs_grow chain (more {cs} {bs} {r} {o} {c} {a} {t} before answered carried) =
         chain.joined s r t (runs_grow chain before) (carried_grows goes grows chain r c (accepted a) t carried)
 
-    replayed : Chains grows → {cs : List (Call T)} {bs : List (Answer T)} {t : S} {q : Slots} → Runs meaning goes grows s p cs bs t q → Replayed meaning goes grows s p cs bs t q
+    replayed : Chains grows → {cs : List (Call T)} {bs : List (Outcome T)} {t : S} {q : Slots} → Runs meaning goes grows s p cs bs t q → Replayed meaning goes grows s p cs bs t q
     replayed chain {cs} {bs} runs =
         record {
           runs = runs;
@@ -153,11 +110,11 @@ module _ {S T : Type 0} {meaning : S → Meaning T} {goes : S → ℕ → Change
         }
 
     -- the loop over the calls: no call yet, one call more, all calls
-    pub start : (bs : List (Answer T)) → bs ≡ [] → Runs meaning goes grows s p [] bs s p
+    pub start : (bs : List (Outcome T)) → bs ≡ [] → Runs meaning goes grows s p [] bs s p
     start bs e = rw e none
 
-    pub next : (cs : List (Call T)) (i : ℕ) (c : Call T) (bs ds : List (Answer T)) (a : Answer T) {r t : S} {o q : Slots} → i < length cs → c ≡ get_or cs i c → ds ≡ bs ++ a ∷ [] → Runs meaning goes grows s p (take i cs) bs r o → Answered (meaning r) o c (meaning t) q a → Carries goes grows r c (accepted a) t → Runs meaning goes grows s p (take (i + 1) cs) ds t q
+    pub next : (cs : List (Call T)) (i : ℕ) (c : Call T) (bs ds : List (Outcome T)) (a : Outcome T) {r t : S} {o q : Slots} → i < length cs → c ≡ get_or cs i c → ds ≡ bs ++ a ∷ [] → Runs meaning goes grows s p (take i cs) bs r o → Answered (meaning r) o c (meaning t) q a → Carries goes grows r c (accepted a) t → Runs meaning goes grows s p (take (i + 1) cs) ds t q
     next cs i c bs ds a l e f runs answered carried = rw (take_more cs i c l, ← e, f) (more runs answered carried)
 
-    pub whole : Chains grows → (cs : List (Call T)) (i : ℕ) {bs : List (Answer T)} {t : S} {q : Slots} → length cs ≤ i → Runs meaning goes grows s p (take i cs) bs t q → Replayed meaning goes grows s p cs bs t q
+    pub whole : Chains grows → (cs : List (Call T)) (i : ℕ) {bs : List (Outcome T)} {t : S} {q : Slots} → length cs ≤ i → Runs meaning goes grows s p (take i cs) bs t q → Replayed meaning goes grows s p cs bs t q
     whole chain cs i l runs = replayed chain (rw (take_all i cs l) at runs)

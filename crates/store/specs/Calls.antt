@@ -1,19 +1,17 @@
 -- One call on a store, with the open reservations in slots: what is answered, and what stands afterwards.
-use Rattle.std.specs.Prelude.{◌≡◌, ℕ, ◌+◌, ◌-◌, ◌<◌, ◌≤◌, Bool, true, false, cond, not, ◌&&◌, List, length, is_some, Some, None, Ok, Err, Option, Result, nat_lt, slice_index_or, slice_set}
+use Rattle.std.specs.Prelude.{◌≡◌, ℕ, ◌+◌, ◌-◌, ◌<◌, ◌≤◌, Bool, true, false, cond, not, ◌&&◌, List, length, is_some, Some, None, Option, nat_lt, option_map, slice_index_or, slice_set}
 use Rattle.std.specs.List.{slice_get}
 use Rattle.store.specs.Deques.{first, last, taken}
 use Rattle.store_faults.specs.Faults.{Refusal}
-use Rattle.store_faults.specs.declared.faults.Fault.{Fault}
 use Rattle.store.specs.History.{fed}
 use Rattle.store.specs.Kinds.{Undisturbed}
 use Rattle.store.specs.Meanings.{Meaning, credit, list_of_version}
 use Rattle.store.specs.Questions.{question_refusal, change_refusal, change_under_refusal, reserve_refusal, close_refusal}
-use Rattle.store.specs.Replies.{Reply, valued, counted, shown, made, reserved, closed, refused, no_slot, reply_of, accepted}
-use Rattle.store.specs.declared.calls.Answer.{Answer}
-use Rattle.store.specs.declared.calls.Answer.TheVariants.{Item as Shows, Refused}
+use Rattle.store.specs.Replies.{Outcome, Reply, valued, counted, shown, made, reserved, closed, refused, no_slot, reply_of, accepted}
+use Rattle.store.specs.Reservations.{less_one, reservation_of}
 use Rattle.store.specs.declared.calls.Call.{Call}
 use Rattle.store.specs.declared.calls.Call.TheVariants.{Ask, Make, MakeUnder, Reserve, Close}
-use Rattle.store.specs.declared.calls.Held.{Held}
+use Rattle.store.specs.declared.reservations.Held.{Held}
 use Rattle.store.specs.declared.calls.Question.{Question}
 use Rattle.store.specs.declared.calls.Question.TheVariants.{Longest, Number, Credit, Promised, Length, Item, Front, Back}
 use Rattle.store.specs.declared.changes.Change.{Change}
@@ -35,7 +33,7 @@ abbrev pub free : Slots → ℕ → Bool
 free slots i = nat_lt i (length slots) && not (is_some (slot_at slots i))
 
 abbrev pub reservation_in : Held → Reservation
-reservation_in h = record { number = h.number; left = h.left }
+reservation_in h = record { held = h }
 
 -- the reply where every question is answered by yes, or else the refusal
 abbrev pub unless : {T : Type 0} → Option Refusal → Reply T → Reply T
@@ -46,10 +44,6 @@ unless (Some f) r = refused f
 abbrev pub in_slot : {T : Type 0} → Option Held → (Reservation → Reply T) → Reply T
 in_slot None f = no_slot
 in_slot (Some h) f = f (reservation_in h)
-
-abbrev pub item_answer : {T : Type 0} → Result (Option T) Fault → Answer T
-item_answer (Ok x) = Shows x
-item_answer (Err f) = Refused f
 
 abbrev pub answer_to : {T : Type 0} → Meaning T → Question → Reply T
 answer_to m Longest = valued m.longest
@@ -75,30 +69,26 @@ abbrev pub left_in : Option Held → ℕ
 left_in None = 0
 left_in (Some h) = h.left
 
-abbrev pub less_one : Option Held → Option Held
-less_one None = None
-less_one (Some h) = Some (record { number = h.number; left = h.left - 1 })
-
 -- the promised count after a call
 abbrev pub promised_after : {T : Type 0} → Meaning T → Slots → Call T → Bool → ℕ
+promised_after m slots call false = m.promised
 promised_after m slots (Ask q) true = m.promised
 promised_after m slots (Make v c) true = m.promised
 promised_after m slots (MakeUnder i v c) true = m.promised - 1
 promised_after m slots (Reserve i n) true = m.promised + n
 promised_after m slots (Close i) true = m.promised - left_in (slot_at slots i)
-promised_after m slots call false = m.promised
 
 -- the slots after a call
 abbrev pub slots_after : {T : Type 0} → Meaning T → Slots → Call T → Bool → Slots
+slots_after m slots call false = slots
 slots_after m slots (Ask q) true = slots
 slots_after m slots (Make v c) true = slots
-slots_after m slots (MakeUnder i v c) true = slice_set slots i (less_one (slot_at slots i))
-slots_after m slots (Reserve i n) true = slice_set slots i (Some (record { number = m.number; left = n }))
+slots_after m slots (MakeUnder i v c) true = slice_set slots i (option_map less_one (slot_at slots i))
+slots_after m slots (Reserve i n) true = slice_set slots i (Some (reservation_of m n).held)
 slots_after m slots (Close i) true = slice_set slots i None
-slots_after m slots call false = slots
 
 -- one call, from meaning m and slots p to meaning t and slots q
-pub record Answered {T : Type 0} (m : Meaning T) (p : Slots) (call : Call T) (t : Meaning T) (q : Slots) (a : Answer T) : Type 0 where
+pub record Answered {T : Type 0} (m : Meaning T) (p : Slots) (call : Call T) (t : Meaning T) (q : Slots) (a : Outcome T) : Type 0 where
   pub answer : reply_of a ≡ reply m p call
   pub versions : t.versions ≡ fed m.versions call (accepted a)
   pub promised : t.promised ≡ promised_after m p call (accepted a)
@@ -110,9 +100,9 @@ pub record Answered {T : Type 0} (m : Meaning T) (p : Slots) (call : Call T) (t 
 
 -- what the kind promises of a call from store s to store t: a question and a refusal leave the store as it was
 abbrev pub Carries : {S T : Type 0} → (S → ℕ → Change T → S → Type 0) → (S → S → Type 0) → S → Call T → Bool → S → Type 0
+Carries goes grows s call false t = t ≡ s
 Carries goes grows s (Ask q) true t = t ≡ s
 Carries goes grows s (Make v c) true t = goes s v c t × grows s t
 Carries goes grows s (MakeUnder i v c) true t = goes s v c t × grows s t
 Carries goes grows s (Reserve i n) true t = Undisturbed goes s t × grows s t
 Carries goes grows s (Close i) true t = Undisturbed goes s t × grows s t
-Carries goes grows s call false t = t ≡ s

@@ -19,12 +19,12 @@ extended lists v c = lists ++ changed c (slice_index_or lists v []) ∷ []
 
 -- the lists after one call
 abbrev pub fed : {T : Type 0} → List (List T) → Call T → Bool → List (List T)
+fed lists call false = lists
 fed lists (Make v c) true = extended lists v c
 fed lists (MakeUnder i v c) true = extended lists v c
 fed lists (Ask q) true = lists
 fed lists (Reserve i n) true = lists
 fed lists (Close i) true = lists
-fed lists call false = lists
 
 -- the lists after calls, from lists that stood before them
 abbrev pub grown : {T : Type 0} → List (List T) → List (Fed T) → List (List T)
@@ -48,12 +48,12 @@ told_of lists Promised = None
 
 -- what the lists tell of a call: for an accepted change, the new list's number and any item taken
 abbrev pub told : {T : Type 0} → List (List T) → Call T → Bool → Option (Reply T)
+told lists call false = None
 told lists (Make v c) true = Some (made (length lists) (taken c (slice_index_or lists v [])))
 told lists (MakeUnder i v c) true = Some (made (length lists) (taken c (slice_index_or lists v [])))
 told lists (Ask q) true = told_of lists q
 told lists (Reserve i n) true = None
 told lists (Close i) true = None
-told lists call false = None
 
 abbrev pub tellings : {T : Type 0} → List (List T) → List (Fed T) → List (Option (Reply T))
 tellings lists [] = []

@@ -31,7 +31,7 @@ ask_credit m n = cond (nat_le (m.promised + n) (credit m)) None (Some (6, short_
 
 -- is the reservation of this store's number, and what it has left not above promised?
 abbrev pub belongs : {T : Type 0} → Meaning T → Reservation → Bool
-belongs m r = r.number == m.number && nat_le r.left m.promised
+belongs m r = r.held.number == m.number && nat_le r.held.left m.promised
 
 abbrev pub question_refusal : {T : Type 0} → Meaning T → ℕ → Option Refusal
 question_refusal m v = ask_version m v None
@@ -41,7 +41,7 @@ change_refusal m v c = ask_version m v (ask_length m v c (ask_credit m 1))
 
 abbrev pub change_under_refusal : {T : Type 0} → Meaning T → Reservation → ℕ → Change T → Option Refusal
 change_under_refusal m r v c =
-    ask_version m v (ask_length m v c (ask (belongs m r) 4 (ask (nat_lt 0 r.left) 5 None)))
+    ask_version m v (ask_length m v c (ask (belongs m r) 4 (ask (nat_lt 0 r.held.left) 5 None)))
 
 abbrev pub reserve_refusal : {T : Type 0} → Meaning T → ℕ → Option Refusal
 reserve_refusal m n = ask (nat_le 1 n && nat_le n 255) 7 (ask_credit m n)

@@ -3,14 +3,13 @@ use Rattle.std.specs.Prelude.{◌≡◌, ℕ, ◌+◌, cond, List, [], ◌∷◌
 use Rattle.store.specs.Calls.{Slots, Answered, Carries}
 use Rattle.store.specs.History.{Fed, grown, history, tellings}
 use Rattle.store.specs.Meanings.{Meaning}
-use Rattle.store.specs.Replies.{accepted, of_lists, reply_of}
-use Rattle.store.specs.declared.calls.Answer.{Answer}
+use Rattle.store.specs.Replies.{Outcome, accepted, of_lists, reply_of}
 use Rattle.store.specs.declared.calls.Call.{Call}
-use Rattle.store.specs.declared.calls.Held.{Held}
+use Rattle.store.specs.declared.reservations.Held.{Held}
 use Rattle.store.specs.declared.changes.Change.{Change}
 
 -- what is fed to the history: each call, and whether its answer accepts it
-abbrev pub feeds : {T : Type 0} → List (Call T) → List (Answer T) → List (Fed T)
+abbrev pub feeds : {T : Type 0} → List (Call T) → List (Outcome T) → List (Fed T)
 feeds [] answers = []
 feeds (c ∷ cs) [] = []
 feeds (c ∷ cs) (a ∷ bs) = (c, accepted a) ∷ feeds cs bs
@@ -28,11 +27,11 @@ pledged number (h ∷ hs) = left_for number h + pledged number hs
 -- a kind of store, by its ghost members
 module _ {S T : Type 0} (meaning : S → Meaning T) (goes : S → ℕ → Change T → S → Type 0) (grows : S → S → Type 0) where
   -- calls with their answers, from store s and slots p
-  pub data Runs (s : S) (p : Slots) : List (Call T) → List (Answer T) → S → Slots → Type 0 where
+  pub data Runs (s : S) (p : Slots) : List (Call T) → List (Outcome T) → S → Slots → Type 0 where
     none : Runs s p [] [] s p
-    more : {cs : List (Call T)} {bs : List (Answer T)} {r : S} {o : Slots} {c : Call T} {a : Answer T} {t : S} {q : Slots} → Runs s p cs bs r o → Answered (meaning r) o c (meaning t) q a → Carries goes grows r c (accepted a) t → Runs s p (cs ++ c ∷ []) (bs ++ a ∷ []) t q
+    more : {cs : List (Call T)} {bs : List (Outcome T)} {r : S} {o : Slots} {c : Call T} {a : Outcome T} {t : S} {q : Slots} → Runs s p cs bs r o → Answered (meaning r) o c (meaning t) q a → Carries goes grows r c (accepted a) t → Runs s p (cs ++ c ∷ []) (bs ++ a ∷ []) t q
 
-  pub record Replayed (s : S) (p : Slots) (cs : List (Call T)) (bs : List (Answer T)) (t : S) (q : Slots) : Type 0 where
+  pub record Replayed (s : S) (p : Slots) (cs : List (Call T)) (bs : List (Outcome T)) (t : S) (q : Slots) : Type 0 where
     pub runs : Runs s p cs bs t q
     -- an answer to each call
     pub every : length bs ≡ length cs

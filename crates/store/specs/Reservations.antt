@@ -7,11 +7,16 @@ use Rattle.store.specs.Meanings.{Meaning, list_of_version, with_promised}
 use Rattle.store.specs.Questions.{change_under_refusal, reserve_refusal, close_refusal, Follows}
 use Rattle.store.specs.declared.changes.Change.{Change}
 use Rattle.store_faults.specs.declared.faults.Fault.{Fault}
+use Rattle.store.specs.declared.reservations.Held.{Held}
 use Rattle.store.specs.declared.reservations.Kept.{Kept}
 use Rattle.store.specs.declared.reservations.Reservation.{Reservation}
 
+-- one change less
+abbrev pub less_one : Held → Held
+less_one h = record h { left = h.left - 1 }
+
 abbrev pub lowered : Reservation → Reservation
-lowered r = record { number = r.number; left = r.left - 1 }
+lowered r = record { held = less_one r.held }
 
 -- a change that is made under reservation r takes one from it, which leaves s, and from promised
 abbrev pub MakesUnder : {T : Type 0} → Meaning T → Reservation → ℕ → Change T → Meaning T → Reservation → ℕ × Option T → Type 0
@@ -39,7 +44,7 @@ TookUnder m r v c t s answer =
     answer
 
 abbrev pub reservation_of : {T : Type 0} → Meaning T → ℕ → Reservation
-reservation_of m n = record { number = m.number; left = n }
+reservation_of m n = record { held = record { number = m.number; left = n } }
 
 abbrev pub Reserved : {T : Type 0} → Meaning T → ℕ → Meaning T → Result Reservation Fault → Type 0
 Reserved m n t answer =
@@ -51,5 +56,5 @@ Reserved m n t answer =
 
 -- a refused close hands the reservation back
 abbrev pub Closed : {T : Type 0} → Meaning T → Reservation → Meaning T → Result (Unit {0}) Kept → Type 0
-Closed m r t (Ok _) = (close_refusal m r ≡ None) × (t ≡ with_promised m (m.promised - r.left))
+Closed m r t (Ok _) = (close_refusal m r ≡ None) × (t ≡ with_promised m (m.promised - r.held.left))
 Closed m r t (Err k) = (close_refusal m r ≡ Some (refusal_of k.fault)) × (k.reservation ≡ r) × (t ≡ m)

@@ -1,4 +1,7 @@
 // Calls on a store, and their answers, as values.
+ghost use Rattle.std.specs.Prelude.{◌≡◌};
+ghost use Rattle.store.specs.declared.calls.CallError.TheVariants.{Refused};
+
 use crate::changes::Change;
 use store_faults::Fault;
 
@@ -39,14 +42,23 @@ pub enum Answer<T> {
     Made(u16, Option<T>),
     Reserved,
     Closed,
+}
+
+/// Why a call is not accepted.
+#[derive(Clone, Copy, PartialEq, Eq, Debug)]
+pub enum CallError {
     Refused(Fault),
     /// The slot is missing, empty where a reservation is needed, or taken where it has to be free: no call was made.
     NoSlot,
 }
 
-/// A reservation that lies in a slot.
-#[derive(Clone, Copy)]
-pub struct Held {
-    pub(super) number: u32,
-    pub(super) left: u16,
+impl From<Fault> for CallError {
+    ghost from_gives = { λ fault error. error ≡ Refused fault };
+
+    fn from(fault: Fault) -> CallError {
+        CallError::Refused(fault)
+    }
 }
+
+/// What becomes of a call.
+pub type Outcome<T> = Result<Answer<T>, CallError>;

@@ -12,7 +12,7 @@ ghost use Rattle.store.specs.declared.changes.Change.{Change};
 ghost use Rattle.store.specs.declared.changes.Change.TheVariants.{Push, Inject, Pop, Eject};
 
 use crate::changes::Change;
-use crate::reservations::{Kept, Reservation};
+use crate::reservations::{Held, Kept, Reservation};
 use store_faults::{Fault, Table};
 
 /// What only this module can make: it lets the bodies below, and nobody else, call what has to be sure first.
@@ -26,6 +26,9 @@ pub trait DequeStore<T: Copy> {
 
     /// What holds of every store.
     ghost sound: { (s : Self) → Sound (meaning s) };
+
+    // `goes` and `grows` tell of a step between two stores, which no invariant of a store can hold: so each contract has a
+    // clause `kind`.
 
     /// What the kind promises of an accepted change: the store before, the version, the change, the store after.
     ghost goes: { Self → ℕ → Change T → Self → Type 0 };
@@ -76,6 +79,7 @@ pub trait DequeStore<T: Copy> {
         ensures kind { goes self.old version change.now self.new × grows self.old self.new };
 
     /// The first item, or none.
+    #[tactic(auto, using(crate::proofs::Ends::first_nth))]
     fn front(&self, version: u16) -> Result<Option<T>, Fault>
         ensures { Shown (meaning self.now) version (first (list_of_version (meaning self.now) version)) result }
     {
@@ -83,6 +87,7 @@ pub trait DequeStore<T: Copy> {
     }
 
     /// The last item, or none.
+    #[tactic(auto, using(crate::proofs::Ends::last_nth, crate::proofs::Ends::last_none))]
     fn back(&self, version: u16) -> Result<Option<T>, Fault>
         ensures { Shown (meaning self.now) version (last (list_of_version (meaning self.now) version)) result }
     {
@@ -99,18 +104,9 @@ pub trait DequeStore<T: Copy> {
     {
         let length = self.length(version)?;
         match change {
-            Change::Push(_) | Change::Inject(_) => {
-                if length >= self.longest() {
-                    return Err(Fault::Full);
-                }
-                Ok(())
-            }
-            Change::Pop | Change::Eject => {
-                if length == 0 {
-                    return Err(Fault::Empty);
-                }
-                Ok(())
-            }
+            Change::Push(_) | Change::Inject(_) if length >= self.longest() => Err(Fault::Full),
+            Change::Pop | Change::Eject if length == 0 => Err(Fault::Empty),
+            _ => Ok(()),
         }
     }
 
@@ -118,21 +114,18 @@ pub trait DequeStore<T: Copy> {
     fn promised_with(&self, count: u16) -> Result<u16, Fault>
         ensures { Covered (meaning self.now) count result }
     {
-        let wanted = self.promised() as u32 + count as u32;
-        if wanted <= self.credit() as u32 {
-            return Ok(wanted as u16);
+        let wanted = u32::from(self.promised()) + u32::from(count);
+        if wanted > u32::from(self.credit()) {
+            return Err(Fault::NoCredit(self.short_table(wanted).unwrap()));
         }
-        match self.short_table(wanted) {
-            Some(table) => Err(Fault::NoCredit(table)),
-            None => unreachable(),
-        }
+        Ok(wanted as u16)
     }
 
     /// Whether the reservation is one of this store's.
     fn owns(&self, reservation: &Reservation) -> bool
         ensures { result ≡ belongs (meaning self.now) reservation.now }
     {
-        reservation.number == self.number() && reservation.left <= self.promised()
+        reservation.held.number == self.number() && reservation.held.left <= self.promised()
     }
 
     /// Any change: the new version, and the item taken.
@@ -144,6 +137,8 @@ pub trait DequeStore<T: Copy> {
         self.promised_with(1)?;
         Ok(self.make(version, change, &Accounting(())))
     }
+
+    // The four changes by their names, here and under a reservation: each is two lines over `change` or `change_under`.
 
     /// A version with the item in front.
     fn push(&mut self, version: u16, item: T) -> Result<u16, Fault>
@@ -168,21 +163,18 @@ pub trait DequeStore<T: Copy> {
         ensures answer { Took (meaning self.old) version Pop (meaning self.new) result }
         ensures kind { GoesOn goes grows self.old version Pop self.new result }
     {
-        match self.change(version, &Change::Pop)? {
-            (rest, Some(item)) => Ok((rest, item)),
-            (_, None) => unreachable(),
-        }
+        let (rest, item) = self.change(version, &Change::Pop)?;
+        Ok((rest, item.unwrap()))
     }
 
     /// A version without the last item, and that item.
+    #[tactic(auto, using(crate::proofs::Ends::last_some))]
     fn eject(&mut self, version: u16) -> Result<(u16, T), Fault>
         ensures answer { Took (meaning self.old) version Eject (meaning self.new) result }
         ensures kind { GoesOn goes grows self.old version Eject self.new result }
     {
-        match self.change(version, &Change::Eject)? {
-            (rest, Some(item)) => Ok((rest, item)),
-            (_, None) => unreachable(),
-        }
+        let (rest, item) = self.change(version, &Change::Eject)?;
+        Ok((rest, item.unwrap()))
     }
 
     /// Sets a number of changes aside.
@@ -190,15 +182,16 @@ pub trait DequeStore<T: Copy> {
         ensures answer { Reserved (meaning self.old) count (meaning self.new) result }
         ensures kind { Accounts goes grows self.old self.new result }
     {
-        if count < 1 || count > 255 {
+        if !(1..=255).contains(&count) {
             return Err(Fault::Count);
         }
         let promised = self.promised_with(count)?;
         self.set_promised(promised, &Accounting(()));
-        Ok(Reservation {
+        let held = Held {
             number: self.number(),
             left: count,
-        })
+        };
+        Ok(Reservation { held })
     }
 
     /// Gives back what the reservation has left, and ends it.
@@ -212,8 +205,8 @@ pub trait DequeStore<T: Copy> {
                 reservation,
             });
         }
-        self.set_promised(self.promised() - reservation.left, &Accounting(()));
-        reservation.end();
+        let Reservation { held } = reservation;
+        self.set_promised(self.promised() - held.left, &Accounting(()));
         Ok(())
     }
 
@@ -231,11 +224,11 @@ pub trait DequeStore<T: Copy> {
         if !self.owns(reservation) {
             return Err(Fault::Foreign);
         }
-        if reservation.left == 0 {
+        if reservation.held.left == 0 {
             return Err(Fault::Spent);
         }
         self.set_promised(self.promised() - 1, &Accounting(()));
-        reservation.left -= 1;
+        reservation.held.left -= 1;
         Ok(self.make(version, change, &Accounting(())))
     }
 
@@ -272,13 +265,12 @@ pub trait DequeStore<T: Copy> {
         ensures answer { TookUnder (meaning self.old) reservation.old version Pop (meaning self.new) reservation.new result }
         ensures kind { GoesOn goes grows self.old version Pop self.new result }
     {
-        match self.change_under(version, &Change::Pop, reservation)? {
-            (rest, Some(item)) => Ok((rest, item)),
-            (_, None) => unreachable(),
-        }
+        let (rest, item) = self.change_under(version, &Change::Pop, reservation)?;
+        Ok((rest, item.unwrap()))
     }
 
     /// `eject` under a reservation.
+    #[tactic(auto, using(crate::proofs::Ends::last_some))]
     fn eject_under(
         &mut self,
         version: u16,
@@ -287,9 +279,7 @@ pub trait DequeStore<T: Copy> {
         ensures answer { TookUnder (meaning self.old) reservation.old version Eject (meaning self.new) reservation.new result }
         ensures kind { GoesOn goes grows self.old version Eject self.new result }
     {
-        match self.change_under(version, &Change::Eject, reservation)? {
-            (rest, Some(item)) => Ok((rest, item)),
-            (_, None) => unreachable(),
-        }
+        let (rest, item) = self.change_under(version, &Change::Eject, reservation)?;
+        Ok((rest, item.unwrap()))
     }
 }

@@ -1,6 +1,7 @@
 // Stores of deque versions: what every kind of store shares, proved once.
 #![tactic(auto)]
 
+mod caller;
 mod calls;
 mod changes;
 mod deque_store;
@@ -8,9 +9,9 @@ mod replaying;
 mod reservations;
 mod theorems;
 
-pub use calls::{Answer, Call, Held, Question};
+pub use calls::{Answer, Call, CallError, Outcome, Question};
 pub use changes::Change;
 pub use deque_store::{Accounting, DequeStore};
 pub use replaying::replay;
-pub use reservations::{Kept, Reservation};
+pub use reservations::{Held, Kept, Reservation};
 pub use theorems::worked_example;

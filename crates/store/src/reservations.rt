@@ -1,20 +1,35 @@
 // Changes that are set aside.
+ghost use Rattle.std.specs.Prelude.{◌≡◌};
+
 use store_faults::Fault;
 
-/// Changes set aside on one store. It has no `Drop`, so it cannot fall: only closing it ends it.
-pub struct Reservation {
+/// A reservation that lies in a slot.
+#[derive(Clone, Copy)]
+pub struct Held {
     pub(super) number: u32,
     pub(super) left: u16,
 }
 
-impl Reservation {
-    pub(super) fn end(self) {
-        let Reservation { number: _, left: _ } = self;
-    }
+/// Changes set aside on one store. It has no `Drop`, so it cannot fall: only closing it ends it.
+pub struct Reservation {
+    pub(super) held: Held,
 }
 
 /// What a refused close answers: why, and the reservation.
 pub struct Kept {
     pub fault: Fault,
     pub reservation: Reservation,
+}
+
+impl Kept {
+    /// Why, of a reservation that still lies in its slot.
+    pub(super) fn into_fault(self) -> Fault
+        ensures { result ≡ self.fault }
+    {
+        let Kept {
+            fault,
+            reservation: Reservation { held: _ },
+        } = self;
+        fault
+    }
 }

@@ -1,13 +1,13 @@
 // Why a call is refused.
 
-/// The tables of a store.
+/// The tables of a store, by their numbers.
 #[derive(Clone, Copy, PartialEq, Eq, Debug)]
 pub enum Table {
-    Versions,
-    Items,
+    Versions = 1,
+    Items = 2,
     /// Level cells or list cells.
-    Cells,
-    Pairs,
+    Cells = 3,
+    Pairs = 4,
 }
 
 #[derive(Clone, Copy, PartialEq, Eq, Debug)]

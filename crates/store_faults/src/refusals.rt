@@ -1,6 +1,6 @@
 // The numbers of refusals.
 ghost use Rattle.std.specs.Prelude.{◌≡◌};
-ghost use Rattle.store_faults.specs.Faults.{refusal_of, table_number};
+ghost use Rattle.store_faults.specs.Faults.{named_table, refusal_of, table_number, table_of};
 
 use crate::faults::{Fault, Table};
 
@@ -8,17 +8,12 @@ impl Table {
     pub fn number(self) -> u8
         ensures { result ≡ table_number self }
     {
-        match self {
-            Table::Versions => 1,
-            Table::Items => 2,
-            Table::Cells => 3,
-            Table::Pairs => 4,
-        }
+        self as u8
     }
 }
 
 impl Fault {
-    /// The number of the refusal.
+    /// The number of the refusal. `NoCredit` has a field, so no cast gives it.
     pub fn number(self) -> u8
         ensures { result ≡ (refusal_of self).0 }
     {
@@ -33,13 +28,14 @@ impl Fault {
         }
     }
 
-    /// The number of the table that it names, or 0.
-    pub fn table(self) -> u8
-        ensures { result ≡ (refusal_of self).1 }
+    /// The table that it names.
+    pub fn table(self) -> Option<Table>
+        ensures table { result ≡ named_table self }
+        ensures number { table_of result ≡ (refusal_of self).1 }
     {
         match self {
-            Fault::NoCredit(table) => table.number(),
-            _ => 0,
+            Fault::NoCredit(table) => Some(table),
+            _ => None,
         }
     }
 }

@@ -4,6 +4,10 @@ use Rattle.store.specs.Replays.{Runs}
 
 abbrev pub invariant-loop-call : goal.invariant-loop-call
 invariant-loop-call g l =
-    (vec_len l.answers ≡ l.call-index)
-    × (length l.calls ≤ vec_capacity l.answers)
-    × Runs g.S.DequeStore.meaning g.S.DequeStore.goes g.S.DequeStore.grows l.initial.store l.initial.slots (take l.call-index l.calls) (vec_items l.answers) l.store l.slots
+    record {
+      every : vec_len l.answers ≡ l.call-index;
+      room : length l.calls ≤ vec_capacity l.answers;
+      same_store : l.caller.store.ghost_name ≡ l.initial.caller.store.ghost_name;
+      same_slots : l.caller.slots.ghost_name ≡ l.initial.caller.slots.ghost_name;
+      runs : Runs g.S.DequeStore.meaning g.S.DequeStore.goes g.S.DequeStore.grows l.initial.caller.store.now l.initial.caller.slots.now (take l.call-index l.calls) (vec_items l.answers) l.caller.store.now l.caller.slots.now;
+    }
