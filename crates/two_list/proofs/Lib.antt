@@ -1,8 +1,10 @@
 pub mod Turning
+pub mod Filling
 pub mod Linking
 pub mod Picking
-pub mod Showing
+pub mod Following
+pub mod Laying
 pub mod Refilling
+pub mod Showing
 pub mod Growing
 pub mod Changing
-pub mod Laying

@@ -1,10 +1,15 @@
 -- Lists in list cells: reading along them, and what a rebuild lays.
 use Rattle.std.proofs.Common.{◌≡◌, ℕ, zero, suc, ◌+◌, ◌-◌, ◌<◌, ◌≤◌, min, cond, ltb, List, [], ◌∷◌, ◌++◌, reverse, length, get_or, take, drop, set, sym, refl, ap, ◌∙◌, ⊎_elim, arith}
-use Rattle.std.proofs.lemmas.List.{append_assoc, reverse-append, length-drop, length-take-le, take-append-le, take_all, take-take, take_more, take_more_set, drop_more, get_or-take, get_or-drop, get_or-append-add}
+use Rattle.std.proofs.lemmas.List.{append_assoc, reverse-append, length-drop, take-append-le, take_all, take-take, take_more, take_more_set, drop_more, get_or-take, get_or-drop, get_or-append-add, get_or_read}
 use Rattle.std.proofs.lemmas.Bool.{cases_lt, lt-ltb, le-ltb}
 use Rattle.two_list.specs.Chains.{cell_at, chain, behind, rebuilt}
-use Rattle.two_list.specs.Tables.{Closed, Inside}
+use Rattle.two_list.specs.Filling.{Fills}
+use Rattle.two_list.specs.Tables.{Closed}
+use Rattle.two_list.specs.Writes.{Rebuildable}
+use Rattle.two_list.specs.declared.lent_table.LentTable.{LentTable}
 use Rattle.two_list.specs.declared.rows.ListCell.{ListCell}
+use Rattle.two_list.specs.declared.rows.Side.{Side}
+use Rattle.two_list.proofs.Filling.{one_more}
 
 pub length_chain : (C : List ListCell) (i n : ℕ) → length (chain C i n) ≡ n
 length_chain C i zero = refl
@@ -39,14 +44,14 @@ cell_same C C' linked k e h =
     sym (get_or-take linked C' k _ h) ∙ ap (λ l. cell_at l k) e ∙ get_or-take linked C k _ h
 
 -- the filled cells stay closed, whatever is written beyond them
-pub closed_same : (C C' : List ListCell) (kept linked : ℕ) → take linked C' ≡ take linked C → Closed C kept linked → Closed C' kept linked
+closed_same : (C C' : List ListCell) (kept linked : ℕ) → take linked C' ≡ take linked C → Closed C kept linked → Closed C' kept linked
 closed_same C C' kept linked e closed k h =
     let c = closed k h in
     let same = cell_same C C' linked k e h in
     (omega (arith, ap (λ (x : ListCell). x.item) same), omega (arith, ap (λ (x : ListCell). x.next) same))
 
 -- n cells more
-pub closed_more : (C C' : List ListCell) (kept kept' linked n : ℕ) → take linked C' ≡ take linked C → Closed C kept linked → kept ≤ kept'
+closed_more : (C C' : List ListCell) (kept kept' linked n : ℕ) → take linked C' ≡ take linked C → Closed C kept linked → kept ≤ kept'
     → ((j : ℕ) → j < n → ((cell_at C' (linked + j)).item < kept') × ((cell_at C' (linked + j)).next < linked + n)) → Closed C' kept' (linked + n)
 closed_more C C' kept kept' linked n e closed more new k h =
     ⊎_elim
@@ -93,25 +98,42 @@ rebuild_more E J to stay i k x lt inv e =
     ∙ ap (λ l. P ++ l) (sym (rebuilt_push to stay 0 (chain E i k) p k (omega (arith, length_chain E i k))))
     ∙ ap (λ l. P ++ rebuilt to stay 0 l) (sym (chain_more E i k))
 
-pub rebuild_turn : (E J : List ListCell) (to n stay i k at next : ℕ) → Inside E to → length J ≡ length E → to + n ≤ length E → k < n
-    → (take (to + k) J ≡ take to E ++ rebuilt to stay 0 (chain E i k)) × (at ≡ behind E i k) × (at + min (n - k) 1 ≤ to)
-    → next ≡ cond (ltb k stay) (to + k + 1) (to + k - 1)
-    → (take (to + (k + 1)) (set J (to + k) (record { item = (cell_at J at).item; next = next })) ≡ take to E ++ rebuilt to stay 0 (chain E i (k + 1)))
-    × ((cell_at J at).next ≡ behind E i (k + 1))
-    × ((cell_at J at).next + min (n - (k + 1)) 1 ≤ to)
-rebuild_turn E J to n stay i k at next inside size room h inv e =
-    let P = take to E in
-    let front : take to J ≡ P =
-    sym (take-take to (to + k) J (omega arith)) ∙ ap (take to) inv.0
-    ∙ take-append-le to P (rebuilt to stay 0 (chain E i k)) (omega (arith, length-take-le to E (omega arith)))
-    ∙ take_all to P (omega (arith, length-take-le to E (omega arith))) in
-    let same : cell_at J at ≡ cell_at E at = cell_same E J to at front (omega arith) in
-    let here : cell_at J at ≡ cell_at E (behind E i k) = same ∙ ap (cell_at E) inv.1 in (
-      rebuild_more E J to stay i k (record { item = (cell_at J at).item; next = next }) (omega arith) inv.0
-          ((λ j. record { item = (here j).item; next = e j })),
-      ap (λ (c : ListCell). c.next) here ∙ sym (behind_more E i k),
-      omega (arith, inside at (omega arith), ap (λ (c : ListCell). c.next) same),
-    )
+ltb_shift : (to k stay : ℕ) → ltb (to + k) (to + stay) ≡ ltb k stay
+ltb_shift to k stay =
+    ⊎_elim
+    (λ (lt : k < stay). lt-ltb (to + k) (to + stay) (omega arith) ∙ sym (lt-ltb k stay lt))
+    (λ (le : stay ≤ k). le-ltb (to + k) (to + stay) (omega arith) ∙ sym (le-ltb k stay le))
+    (cases_lt k stay)
+
+-- after k turns of a rebuild, which began with the cells E: the cells J, and the next cell to copy
+pub record Rebuilding (E J : LentTable ListCell) (far : Side) (stay k at : ℕ) : Type 0 where
+  pub more : Fills E k J
+  pub laid : take (E.filled + k) J.places.now ≡ take E.filled E.places.now ++ rebuilt E.filled stay 0 (chain E.places.now far.cell k)
+  pub at_is : at ≡ behind E.places.now far.cell k
+  pub at_starts : at + min (far.length - k) 1 ≤ E.filled
+
+pub rebuilding_more : (E J J' : LentTable ListCell) (far : Side) (stay k at first place next : ℕ) (cell : ListCell) → Rebuildable E far stay → k < far.length → Rebuilding E J far stay k at
+    → cell ≡ get_or J.places.now at cell → first ≡ E.filled → place ≡ J.filled → next ≡ cond (ltb place (first + stay)) (place + 1) (place - 1)
+    → J'.places.now ≡ set J.places.now J.filled (record { item = cell.item; next = next }) → J'.filled ≡ J.filled + 1
+    → Rebuilding E J' far stay (k + 1) cell.next
+rebuilding_more E J J' far stay k at first place next cell able h so_far got first_is place_is link places filled =
+    let to = E.filled in
+    let C = E.places.now in
+    let x : ListCell = record { item = cell.item; next = next } in
+    let more = so_far.more in
+    let same : cell ≡ cell_at C at =
+    get_or_read J.places.now at cell (omega (arith, so_far.at_starts, more.size)) got _ ∙ cell_same C J.places.now to at more.before (omega (arith, so_far.at_starts)) in
+    let here : cell ≡ cell_at C (behind C far.cell k) = same ∙ ap (cell_at C) so_far.at_is in
+    let at_place = place_is ∙ more.filled in
+    let linked : next ≡ cond (ltb k stay) (to + k + 1) (to + k - 1) =
+    link ∙ (λ j. cond (ltb (at_place j) (first_is j + stay)) (at_place j + 1) (at_place j - 1)) ∙ ap (λ b. cond b (to + k + 1) (to + k - 1)) (ltb_shift to k stay) in
+    record {
+      more = one_more E J J' k x more places filled;
+      laid = ap (take (to + (k + 1))) (places ∙ ap (λ n. set J.places.now n x) more.filled)
+          ∙ rebuild_more C J.places.now to stay far.cell k x (omega (arith, more.size, able.room)) so_far.laid (λ j. record { item = (here j).item; next = linked j });
+      at_is = ap (λ (c : ListCell). c.next) here ∙ sym (behind_more C far.cell k);
+      at_starts = omega (arith, able.inside at (omega (arith, so_far.at_starts)), ap (λ (c : ListCell). c.next) same);
+    }
 
 -- after a rebuild of the places ps, whose cells stand behind the cells P
 module _ (C P : List ListCell) (to stay n : ℕ) (ps : List ℕ) (e : take (to + n) C ≡ P ++ rebuilt to stay 0 ps) (p : length P ≡ to) (l : length ps ≡ n) where

@@ -94,7 +94,3 @@ module _ {T : Type 0} where
   pub refilled_empty : (near far : List T) → length near ≡ 0 → (refilled near far ≡ refilled [] far) × (refill_cells near far ≡ length far)
   refilled_empty [] far h = (refl, refl)
   refilled_empty (x ∷ near) far h = absurd (omega arith)
-
-  pub refill_at_most : (near far : List T) → refill_cells near far ≤ length far
-  refill_at_most [] far = omega arith
-  refill_at_most (x ∷ near) far = omega arith

@@ -1,102 +1,104 @@
--- A refill of the near side, and the item that is taken from it.
-use Rattle.std.proofs.Common.{◌≡◌, ℕ, suc, ◌+◌, ◌-◌, ◌/◌, ◌<◌, ◌≤◌, List, ◌∷◌, ◌++◌, length, get_or, take, drop, Some, sym, refl, ap, ◌∙◌, arith}
-use Rattle.std.proofs.lemmas.List.{length-take-le, take_all, take-take, take-append-le}
+-- A refill of the front list, and the item that is taken from it.
+use Rattle.std.proofs.Common.{◌≡◌, ℕ, suc, ◌+◌, ◌-◌, ◌/◌, ◌<◌, List, ◌∷◌, ◌++◌, length, get_or, take, drop, Some, sym, refl, ap, ◌∙◌, arith}
+use Rattle.std.proofs.lemmas.List.{length-take-le}
 use Rattle.store.specs.Deques.{first}
-use Rattle.two_list.specs.Chains.{cell_at, chain, picked, rebuilt}
-use Rattle.two_list.specs.Sides.{refilled}
-use Rattle.two_list.specs.Tables.{items_of}
-use Rattle.two_list.specs.Writes.{Takeable, Refills, Takes}
+use Rattle.store.specs.declared.changes.Change.TheVariants.{Pop}
+use Rattle.two_list.specs.Chains.{chain, picked}
+use Rattle.two_list.specs.Sides.{Sides, list_of}
+use Rattle.two_list.specs.Stores.{sides_in}
+use Rattle.two_list.specs.Tables.{Closed, items_of}
+use Rattle.two_list.specs.Writes.{Rebuilds, Refills, Roomy, Turned}
+use Rattle.two_list.specs.declared.lent_table.LentTable.{LentTable}
+use Rattle.two_list.specs.declared.lists.Lists.{Lists}
 use Rattle.two_list.specs.declared.rows.ListCell.{ListCell}
-use Rattle.two_list.specs.declared.rows.Side.{Side}
-use Rattle.two_list.specs.declared.writing.Ends.{Ends}
+use Rattle.two_list.specs.declared.rows.VersionRow.{VersionRow}
 use Rattle.two_list.proofs.Linking.{length_chain, places_inside, staying_chain, going_chain, rebuilt_closed}
-use Rattle.two_list.proofs.Picking.{length_side, one, refill_at_most, refill_places, refilled_whole, refilled_empty}
-use Rattle.two_list.proofs.Turning.{refilled_some}
+use Rattle.two_list.proofs.Picking.{one, refill_places, refilled_whole, refilled_empty}
+use Rattle.two_list.proofs.Following.{cell_inside, cell_read, length_items_of}
+use Rattle.two_list.proofs.Turning.{popped, refilled_some}
 
-module _ {T : Type 0} (I : List T) (C : List ListCell) (linked : ℕ) (near far : Side) (able : Takeable I C linked near far) where
-  near_length : length (items_of I C near) ≡ near.length
-  near_length = length_side I C (length I) linked near.cell near.length able.closed (omega arith) able.near_starts
-
-  far_length : length (items_of I C far) ≡ far.length
-  far_length = length_side I C (length I) linked far.cell far.length able.closed (omega arith) able.far_starts
-
-  pub no_rebuild : 0 < near.length → Refills I C linked near far C (record { near = near; far = far; filled = 0 })
+module _ {T : Type 0} (l : Lists T) (row : VersionRow) (able : Roomy l row) where
+  pub no_rebuild : 0 < row.front.length → Refills l row l row
   no_rebuild h =
-      let same = refilled_whole (items_of I C near) (items_of I C far) (omega (arith, near_length)) in
-      let z : linked + 0 ≡ linked = omega arith in
+      let same = refilled_whole (sides_in l row).front (sides_in l row).rear (omega (arith, length_items_of l row.front able.front_starts)) in
       record {
-        near_items = sym (ap (λ (p : List T × List T). p.0) same.0);
-        far_items = sym (ap (λ (p : List T × List T). p.1) same.0);
-        count = sym same.1;
-        near_starts = omega (arith, able.near_starts);
-        far_starts = omega (arith, able.far_starts);
-        size = refl;
-        before = refl;
-        closed = λ kept closed. rw z closed;
+        sides = (λ j. record { front = (sym same.0 j).0; rear = (sym same.0 j).1 });
+        items_more = record { filled = omega arith; size = refl; before = refl };
+        cells_more = record { filled = omega (arith, same.1); size = refl; before = refl };
+        front_starts = able.front_starts;
+        rear_starts = able.rear_starts;
       }
 
-  pub after_rebuild : (C' : List ListCell) → near.length ≡ 0 → length C' ≡ length C
-      → take (linked + far.length) C' ≡ take linked C ++ rebuilt linked (far.length / 2) 0 (chain C far.cell far.length)
-      → Refills I C linked near far C' (record { near = record { cell = linked + far.length - 1; length = far.length - far.length / 2 }; far = record { cell = linked; length = far.length / 2 }; filled = far.length })
-  after_rebuild C' none size e =
-      let n = far.length in
-      let ps = chain C far.cell n in
-      let P = take linked C in
-      let some = able.some in
-      let room = able.room in
-      let p : length P ≡ linked = length-take-le linked C (omega arith) in
-      let l = length_chain C far.cell n in
-      let same = refilled_empty (items_of I C near) (items_of I C far) (near_length ∙ none) in
-      let places = refill_places I C (length I) linked far.cell n able.closed (omega arith) able.far_starts in
-      record {
-        near_items = ap (picked I) (going_chain C' P linked (n / 2) n ps e p l (omega arith)) ∙ places.0 ∙ sym (ap (λ (q : List T × List T). q.0) same.0);
-        far_items = ap (picked I) (staying_chain C' P linked (n / 2) n ps e p l (omega arith)) ∙ places.1 ∙ sym (ap (λ (q : List T × List T). q.1) same.0);
-        count = sym (same.1 ∙ far_length);
-        near_starts = omega arith;
-        far_starts = omega arith;
-        size = size;
-        before = sym (take-take linked (linked + n) C' (omega arith)) ∙ ap (take linked) e ∙ take-append-le linked P (rebuilt linked (n / 2) 0 ps) (omega arith) ∙ take_all linked P (omega arith);
-        closed = λ kept closed.
-            rebuilt_closed C' P linked (n / 2) n ps e p l C kept refl closed (omega arith)
-            (λ k h. places_inside C kept linked far.cell n k closed able.far_starts h);
-      }
+  -- the rear list is rebuilt in the cells C'
+  module _ (some : 0 < row.rear.length) (C' : LentTable ListCell) (done : Rebuilds l.cells row.rear (row.rear.length / 2) C') where
+    pub rebuilt_inside : Closed C'.places.now l.items.filled C'.filled
+    rebuilt_inside =
+        let n = row.rear.length in
+        let C = l.cells.places.now in
+        let to = l.cells.filled in
+        rw done.more.filled (
+        rebuilt_closed C'.places.now (take to C) to (n / 2) n (chain C row.rear.cell n) done.laid (length-take-le to C (omega arith)) (length_chain C row.rear.cell n)
+        C l.items.filled refl l.closed (omega arith) (λ k h. places_inside C l.items.filled to row.rear.cell n k l.closed able.rear_starts h))
 
-  -- after a refill, with ends e over the cells C'
-  module _ (C' : List ListCell) (e : Ends) (left : Refills I C linked near far C' e) where
-    pub refilled_length : (0 < e.near.length) × (e.near.cell < linked + e.filled)
-    refilled_length =
-        let some = refilled_some (items_of I C near) (items_of I C far) (omega (arith, able.some, near_length, far_length)) in
-        let l = length_side I C' (length I) (linked + e.filled) e.near.cell e.near.length (left.closed (length I) able.closed) (omega arith) left.near_starts in
-        let h : 0 < e.near.length = omega (arith, ap length left.near_items) in
-        (h, omega (arith, left.near_starts))
-
-    pub end_cell : ((cell_at C' e.near.cell).item < length I) × ((cell_at C' e.near.cell).next < linked + e.filled)
-    end_cell = left.closed (length I) able.closed e.near.cell refilled_length.1
-
-    pub within : linked + e.filled ≤ length C'
-    within = omega (arith, able.room, left.count, left.size, refill_at_most (items_of I C near) (items_of I C far), far_length)
-
-    -- the end item x of the near side, and the items behind it
-    end_split : (x : T) → x ≡ get_or I (cell_at C' e.near.cell).item x → items_of I C' e.near ≡ x ∷ items_of I C' (record { cell = (cell_at C' e.near.cell).next; length = e.near.length - 1 })
-    end_split x got =
-        let p = (cell_at C' e.near.cell).item in
-        let behind_it = items_of I C' (record { cell = (cell_at C' e.near.cell).next; length = e.near.length - 1 }) in
-        let n : e.near.length ≡ suc (e.near.length - 1) = omega (arith, refilled_length.0) in
-        ap (λ k. picked I (chain C' e.near.cell k)) n ∙ ap (λ l. l ++ behind_it) (one I p x end_cell.0) ∙ ap (λ y. y ∷ behind_it) (sym got)
-
-    pub took_item : (x : T) → x ≡ get_or I (cell_at C' e.near.cell).item x → first (refilled (items_of I C near) (items_of I C far)).0 ≡ Some x
-    took_item x got = ap first (sym left.near_items ∙ end_split x got)
-
-    pub took_cells : (x : T) → x ≡ get_or I (cell_at C' e.near.cell).item x
-        → Takes I C linked near far C' (record { near = record { cell = (cell_at C' e.near.cell).next; length = e.near.length - 1 }; far = e.far; filled = e.filled })
-    took_cells x got =
+    pub after_rebuild : (closed : Closed C'.places.now l.items.filled C'.filled) (first next : ℕ) → row.front.length ≡ 0 → first ≡ l.cells.filled → next ≡ C'.filled
+        → Refills l row (record { items = l.items; cells = C'; closed = closed }) (record { front = record { cell = next - 1; length = row.rear.length - row.rear.length / 2 }; rear = record { cell = first; length = row.rear.length / 2 } })
+    after_rebuild closed first next none first_is next_is =
+        let n = row.rear.length in
+        let I = l.items.places.now in
+        let C = l.cells.places.now in
+        let to = l.cells.filled in
+        let ps = chain C row.rear.cell n in
+        let more = done.more in
+        let P = take to C in
+        let p : length P ≡ to = length-take-le to C (omega arith) in
+        let q = length_chain C row.rear.cell n in
+        let same = refilled_empty (sides_in l row).front (sides_in l row).rear (length_items_of l row.front able.front_starts ∙ none) in
+        let places = refill_places I C l.items.filled to row.rear.cell n l.closed (omega arith) able.rear_starts in
+        let last : next - 1 ≡ to + n - 1 = omega (arith, more.filled) in
+        let near = ap (λ i. picked I (chain C'.places.now i (n - n / 2))) last ∙ ap (picked I) (going_chain C'.places.now P to (n / 2) n ps done.laid p q (omega arith)) ∙ places.0 in
+        let far = ap (λ i. picked I (chain C'.places.now i (n / 2))) first_is ∙ ap (picked I) (staying_chain C'.places.now P to (n / 2) n ps done.laid p q (omega arith)) ∙ places.1 in
         record {
-          near_items = ap (drop 1) (sym (end_split x got) ∙ left.near_items);
-          far_items = left.far_items;
-          count = left.count;
-          near_starts = omega (arith, end_cell.1);
-          far_starts = left.far_starts;
-          size = left.size;
-          before = left.before;
-          closed = left.closed;
+          sides = (λ j. record { front = (near ∙ sym (ap (λ (r : List T × List T). r.0) same.0)) j; rear = (far ∙ sym (ap (λ (r : List T × List T). r.1) same.0)) j });
+          items_more = record { filled = omega arith; size = refl; before = refl };
+          cells_more = record {
+            filled = omega (arith, more.filled, same.1, length_items_of l row.rear able.rear_starts);
+            size = more.size;
+            before = more.before;
+          };
+          front_starts = omega (arith, more.filled);
+          rear_starts = omega (arith, more.filled);
         }
+
+-- the item x in the end cell of the front list, after a refill that left the version r in the lists m
+module _ {T : Type 0} (l m : Lists T) (row r : VersionRow) (able : Roomy l row) (some : 0 < row.front.length + row.rear.length) (left : Refills l row m r) where
+  pub refilled_front : (0 < r.front.length) × (r.front.cell < m.cells.filled)
+  refilled_front =
+      let front = length_items_of l row.front able.front_starts in
+      let rear = length_items_of l row.rear able.rear_starts in
+      let more = refilled_some (sides_in l row).front (sides_in l row).rear (omega arith) in
+      let h : 0 < r.front.length = omega (arith, ap (λ (s : Sides T). length s.front) left.sides, length_items_of m r.front left.front_starts) in
+      (h, omega (arith, left.front_starts))
+
+  pub took : (end : ListCell) (x : T) → end ≡ get_or m.cells.places.now r.front.cell end → x ≡ get_or m.items.places.now end.item x
+      → Turned l row Pop m (record { front = record { cell = end.next; length = r.front.length - 1 }; rear = r.rear }) × (Some x ≡ first (list_of (sides_in l row)))
+  took end x got_end got =
+      let I = m.items.places.now in
+      let C = m.cells.places.now in
+      let inside = cell_inside m r.front.cell end refilled_front.1 got_end in
+      let rest = items_of I C (record { cell = end.next; length = r.front.length - 1 }) in
+      let n : r.front.length ≡ suc (r.front.length - 1) = omega (arith, refilled_front.0) in
+      let split : items_of I C r.front ≡ x ∷ rest =
+      ap (λ k. picked I (chain C r.front.cell k)) n
+      ∙ ap (λ (c : ListCell). take 1 (drop c.item I) ++ picked I (chain C c.next (r.front.length - 1))) (sym (cell_read m r.front.cell end refilled_front.1 got_end))
+      ∙ ap (λ q. q ++ rest) (one I end.item x (omega arith))
+      ∙ ap (λ y. y ∷ rest) (sym got) in
+      let front = ap (λ (s : Sides T). s.front) left.sides in (
+        record {
+          sides = (λ j. record { front = (ap (drop 1) (sym split ∙ front)) j; rear = (left.sides j).rear });
+          items_more = left.items_more;
+          cells_more = left.cells_more;
+          front_starts = omega (arith, inside.1);
+          rear_starts = left.rear_starts;
+        },
+        ap first (sym split ∙ front) ∙ popped (sides_in l row),
+      )

@@ -68,11 +68,8 @@ module _ {T : Type 0} where
   pub popped : (s : Sides T) → first (refilled s.front s.rear).0 ≡ first (list_of s)
   popped s = (near_take s.front s.rear).1
 
-  pub ejected : (s : Sides T) → first (refilled s.rear s.front).0 ≡ last (list_of s)
-  ejected s =
-      (near_take s.rear s.front).1
-      ∙ ap first (sym (mirrored s.rear s.front))
-      ∙ last_reverse (list_of s)
+  pub last_mirrored : (s : Sides T) → first (s.rear ++ reverse s.front) ≡ last (list_of s)
+  last_mirrored s = ap first (sym (mirrored s.rear s.front)) ∙ last_reverse (list_of s)
 
   refill_least : (near far : List T) (longest : ℕ) → length near + length far ≤ longest → refill_cells near far ≤ longest
   refill_least [] far longest h = omega arith

@@ -1,7 +1,8 @@
 -- What holds of every two-list store, and of any calls one after another.
 use Rattle.std.specs.Prelude.{ℕ, zero, suc, ◌≤◌, List, [], ◌∷◌, map, reverse, length, get_or, take, drop, slice_index_or, refl}
 use Rattle.std.proofs.Common.{sym, ap, ◌∙◌, arith}
-use Rattle.std.proofs.lemmas.List.{length-append, length-reverse, length-take, take_all, take-take}
+use Rattle.std.proofs.Math.Seq.{take-length}
+use Rattle.std.proofs.lemmas.List.{length-append, length-reverse, length-take, take-take}
 use Rattle.store.specs.Kinds.{Chains}
 use Rattle.store.specs.Meanings.{Sound}
 use Rattle.two_list.specs.Chains.{chain, picked}
@@ -10,10 +11,7 @@ use Rattle.two_list.specs.Stores.{Front, Grows, meaning_of}
 use Rattle.two_list.specs.Tables.{Fitting, RowsFit, items_of, sides_of}
 use Rattle.two_list.specs.declared.rows.ListCell.{ListCell}
 use Rattle.two_list.specs.declared.rows.VersionRow.{VersionRow}
-use Rattle.two_list.specs.declared.tables.TwoListStore.{TwoListStore}
-
-front_same : {A : Type 0} (xs : List A) → Front xs xs
-front_same xs = take_all (length xs) xs (omega arith)
+use Rattle.two_list.specs.declared.two_list_store.TwoListStore.{TwoListStore}
 
 front_joined : {A : Type 0} (xs ys zs : List A) → Front xs ys → Front ys zs → Front xs zs
 front_joined xs ys zs p q =
@@ -44,7 +42,7 @@ module _ {T : Type 0} where
   versions_bounded : (s : TwoListStore T) (v : ℕ) → length (slice_index_or (meaning_of s).versions v []) ≤ s.longest
   versions_bounded s zero = omega arith
   versions_bounded s (suc v) =
-      rows_bounded s.tables.items.now s.tables.cells.now s.linked s.longest s.tables.versions.now s.made v s.fitting
+      rows_bounded s.lists.items.places.now s.lists.cells.places.now s.lists.cells.filled s.longest s.versions.places.now s.versions.filled v s.fitting
 
   pub standing : (s : TwoListStore T) → Sound (meaning_of s)
   standing s =
@@ -59,7 +57,7 @@ module _ {T : Type 0} where
   pub growing : Chains (Grows {T = T})
   growing =
       record {
-        same = λ s. record { versions = front_same _; items = front_same _; cells = front_same _ };
+        same = λ s. record { versions = take-length _; items = take-length _; cells = take-length _ };
         joined = λ r s t p q.
             record {
               versions = front_joined _ _ _ p.versions q.versions;

@@ -1,43 +1,43 @@
 -- What a two-list store means, and what it promises of every call and of an accepted change.
-use Rattle.std.specs.Prelude.{◌≡◌, ℕ, zero, suc, ◌+◌, ◌-◌, ◌≤◌, min, max, List, [], ◌∷◌, length, take, slice_index_or}
+use Rattle.std.specs.Prelude.{◌≡◌, ℕ, zero, suc, ◌+◌, ◌≤◌, min, max, List, [], ◌∷◌, length, take, slice_index_or}
 use Rattle.store.specs.Meanings.{Meaning}
 use Rattle.store.specs.declared.changes.Change.{Change}
+use Rattle.two_list.specs.Filling.{free}
 use Rattle.two_list.specs.Sides.{Sides, turned, cells_filled, items_filled}
 use Rattle.two_list.specs.Tables.{no_row, sides_of, lists, usable, shares}
+use Rattle.two_list.specs.declared.lists.Lists.{Lists}
 use Rattle.two_list.specs.declared.rows.ListCell.{ListCell}
 use Rattle.two_list.specs.declared.rows.VersionRow.{VersionRow}
-use Rattle.two_list.specs.declared.tables.TwoListStore.{TwoListStore}
+use Rattle.two_list.specs.declared.two_list_store.TwoListStore.{TwoListStore}
 
 -- the filled part of each table
 abbrev pub made_rows : {T : Type 0} → TwoListStore T → List VersionRow
-made_rows s = take s.made s.tables.versions.now
+made_rows s = take s.versions.filled s.versions.places.now
 
 abbrev pub kept_items : {T : Type 0} → TwoListStore T → List T
-kept_items s = take s.kept s.tables.items.now
+kept_items s = take s.lists.items.filled s.lists.items.places.now
 
 abbrev pub linked_cells : {T : Type 0} → TwoListStore T → List ListCell
-linked_cells s = take s.linked s.tables.cells.now
+linked_cells s = take s.lists.cells.filled s.lists.cells.places.now
 
 abbrev pub row_at : {T : Type 0} → TwoListStore T → ℕ → VersionRow
 row_at s zero = no_row
-row_at s (suc k) = slice_index_or s.tables.versions.now k no_row
+row_at s (suc k) = slice_index_or s.versions.places.now k no_row
 
 -- the two lists of a version
+abbrev pub sides_in : {T : Type 0} → Lists T → VersionRow → Sides T
+sides_in l r = sides_of l.items.places.now l.cells.places.now r
+
 abbrev pub sides_at : {T : Type 0} → TwoListStore T → ℕ → Sides T
-sides_at s v = sides_of s.tables.items.now s.tables.cells.now (row_at s v)
+sides_at s v = sides_in s.lists (row_at s v)
 
 abbrev pub shares_of : {T : Type 0} → TwoListStore T → List ℕ
-shares_of s =
-    shares
-    (usable s.tables.versions.now - s.made)
-    (usable s.tables.items.now - s.kept)
-    (usable s.tables.cells.now - s.linked)
-    s.longest
+shares_of s = shares (free s.versions) (free s.lists.items) (free s.lists.cells) s.longest
 
 abbrev pub meaning_of : {T : Type 0} → TwoListStore T → Meaning T
 meaning_of s =
     record {
-      versions = lists s.tables.items.now s.tables.cells.now (made_rows s);
+      versions = lists s.lists.items.places.now s.lists.cells.places.now (made_rows s);
       longest = s.longest;
       number = s.number;
       promised = s.promised;
@@ -58,12 +58,12 @@ opened versions items cells longest number =
 -- it lies over these tables as they are, and none of their places is filled
 pub record Opens {T : Type 0} (versions : List VersionRow) (items : List T) (cells : List ListCell) (longest number : ℕ) (s : TwoListStore T) : Type 0 where
   pub meaning : meaning_of s ≡ opened versions items cells (min (max longest 1) 1000) number
-  pub versions_lent : s.tables.versions.now ≡ versions
-  pub items_lent : s.tables.items.now ≡ items
-  pub cells_lent : s.tables.cells.now ≡ cells
-  pub none_made : s.made ≡ 0
-  pub none_kept : s.kept ≡ 0
-  pub none_linked : s.linked ≡ 0
+  pub versions_lent : s.versions.places.now ≡ versions
+  pub items_lent : s.lists.items.places.now ≡ items
+  pub cells_lent : s.lists.cells.places.now ≡ cells
+  pub none_made : s.versions.filled ≡ 0
+  pub none_kept : s.lists.items.filled ≡ 0
+  pub none_linked : s.lists.cells.filled ≡ 0
 
 -- what stood before stands in front of what stands after
 abbrev pub Front : {A : Type 0} → List A → List A → Type 0
@@ -77,10 +77,10 @@ pub record Grows {T : Type 0} (s t : TwoListStore T) : Type 0 where
 
 -- change c on version v: the two lists of the new version, those of every older one, and the places filled
 pub record Turns {T : Type 0} (s : TwoListStore T) (v : ℕ) (c : Change T) (t : TwoListStore T) : Type 0 where
-  pub new : sides_at t (s.made + 1) ≡ turned c (sides_at s v)
-  pub old : (w : ℕ) → w ≤ s.made → sides_at t w ≡ sides_at s w
-  pub versions : t.made ≡ s.made + 1
-  pub items : t.kept ≡ s.kept + items_filled c
-  pub cells : t.linked ≡ s.linked + cells_filled c (sides_at s v)
+  pub new : sides_at t (s.versions.filled + 1) ≡ turned c (sides_at s v)
+  pub old : (w : ℕ) → w ≤ s.versions.filled → sides_at t w ≡ sides_at s w
+  pub versions : t.versions.filled ≡ s.versions.filled + 1
+  pub items : t.lists.items.filled ≡ s.lists.items.filled + items_filled c
+  pub cells : t.lists.cells.filled ≡ s.lists.cells.filled + cells_filled c (sides_at s v)
   -- never more list cells than the longest length
-  pub most : t.linked ≤ s.linked + s.longest
+  pub most : t.lists.cells.filled ≤ s.lists.cells.filled + s.longest

@@ -1,76 +1,69 @@
--- What the functions that write the tables ask, and what they leave.
-use Rattle.std.specs.Prelude.{◌≡◌, ℕ, ◌+◌, ◌<◌, ◌≤◌, List, length, take, drop, slice_set}
-use Rattle.store.specs.Meanings.{least}
-use Rattle.two_list.specs.Sides.{refilled, refill_cells}
-use Rattle.two_list.specs.Stores.{shares_of}
-use Rattle.two_list.specs.Tables.{Closed, Starts, Fitting, items_of, usable}
+-- What the functions that write the lists ask, and what they leave.
+use Rattle.std.specs.Prelude.{◌≡◌, ℕ, ◌+◌, ◌<◌, ◌≤◌, ◌++◌, take}
+use Rattle.store.specs.declared.changes.Change.{Change}
+use Rattle.store.specs.declared.changes.Change.TheVariants.{Push, Inject, Pop, Eject}
+use Rattle.two_list.specs.Chains.{chain, rebuilt}
+use Rattle.two_list.specs.Filling.{Fills, free}
+use Rattle.two_list.specs.Sides.{Sides, refilled, refill_cells, turned, cells_filled, items_filled}
+use Rattle.two_list.specs.Stores.{sides_in}
+use Rattle.two_list.specs.Tables.{Inside, Starts}
+use Rattle.two_list.specs.declared.lent_table.LentTable.{LentTable}
+use Rattle.two_list.specs.declared.lists.Lists.{Lists}
 use Rattle.two_list.specs.declared.rows.ListCell.{ListCell}
 use Rattle.two_list.specs.declared.rows.Side.{Side}
 use Rattle.two_list.specs.declared.rows.VersionRow.{VersionRow}
-use Rattle.two_list.specs.declared.tables.TwoListStore.{TwoListStore}
-use Rattle.two_list.specs.declared.writing.Ends.{Ends}
 
--- two sides that an item can be taken from, with free cells for a rebuild
-pub record Takeable {T : Type 0} (items : List T) (cells : List ListCell) (linked : ℕ) (near far : Side) : Type 0 where
-  pub closed : Closed cells (length items) linked
-  pub near_starts : Starts linked near
-  pub far_starts : Starts linked far
-  pub some : 0 < near.length + far.length
-  pub room : linked + far.length ≤ usable cells
+-- a list of which so many items can stay in a rebuild, with free cells for all of them
+pub record Rebuildable (cells : LentTable ListCell) (far : Side) (stay : ℕ) : Type 0 where
+  pub inside : Inside cells.places.now cells.filled
+  pub starts : Starts cells.filled far
+  pub part : stay ≤ far.length
+  pub room : far.length ≤ free cells
 
--- the cells filled behind the first `linked`, and the two sides, which have these items
-pub record Leaves {T : Type 0} (items : List T) (cells : List ListCell) (linked : ℕ) (cells' : List ListCell) (ends : Ends) (near far : List T) (filled : ℕ) : Type 0 where
-  pub near_items : items_of items cells' ends.near ≡ near
-  pub far_items : items_of items cells' ends.far ≡ far
-  pub count : ends.filled ≡ filled
-  pub near_starts : Starts (linked + ends.filled) ends.near
-  pub far_starts : Starts (linked + ends.filled) ends.far
-  pub size : length cells' ≡ length cells
-  pub before : take linked cells' ≡ take linked cells
-  pub closed : (kept : ℕ) → Closed cells kept linked → Closed cells' kept (linked + ends.filled)
+-- the cells after its rebuild
+pub record Rebuilds (cells : LentTable ListCell) (far : Side) (stay : ℕ) (cells' : LentTable ListCell) : Type 0 where
+  pub more : Fills cells far.length cells'
+  pub laid : take (cells.filled + far.length) cells'.places.now ≡ take cells.filled cells.places.now ++ rebuilt cells.filled stay 0 (chain cells.places.now far.cell far.length)
 
--- a refill before a take at the near end
-abbrev pub Refills : {T : Type 0} → List T → List ListCell → ℕ → Side → Side → List ListCell → Ends → Type 0
-Refills items cells linked near far cells' ends =
+-- a version of these lists, with free places for any change of it
+pub record Roomy {T : Type 0} (l : Lists T) (row : VersionRow) : Type 0 where
+  pub front_starts : Starts l.cells.filled row.front
+  pub rear_starts : Starts l.cells.filled row.rear
+  pub short : row.front.length + row.rear.length ≤ 1000
+  pub item_free : 0 < free l.items
+  pub cell_free : 0 < free l.cells
+  pub cells_free : row.front.length + row.rear.length ≤ free l.cells
+
+-- a version of n items has what a change takes
+abbrev pub Enough : {T : Type 0} → Change T → ℕ → Type 0
+Enough (Push x) n = Unit {0}
+Enough (Inject x) n = Unit {0}
+Enough Pop n = 0 < n
+Enough Eject n = 0 < n
+
+-- the lists l' with so many items and cells more, and a version there with these two lists
+pub record Leaves {T : Type 0} (l : Lists T) (two : Sides T) (items cells : ℕ) (l' : Lists T) (row : VersionRow) : Type 0 where
+  pub sides : sides_in l' row ≡ two
+  pub items_more : Fills l.items items l'.items
+  pub cells_more : Fills l.cells cells l'.cells
+  pub front_starts : Starts l'.cells.filled row.front
+  pub rear_starts : Starts l'.cells.filled row.rear
+
+-- a refill before a take from the front
+abbrev pub Refills : {T : Type 0} → Lists T → VersionRow → Lists T → VersionRow → Type 0
+Refills l row l' row' =
     Leaves
-    items
-    cells
-    linked
-    cells'
-    ends
-    (refilled (items_of items cells near) (items_of items cells far)).0
-    (refilled (items_of items cells near) (items_of items cells far)).1
-    (refill_cells (items_of items cells near) (items_of items cells far))
+    l
+    (record {
+      front = (refilled (sides_in l row).front (sides_in l row).rear).0;
+      rear = (refilled (sides_in l row).front (sides_in l row).rear).1;
+    })
+    0
+    (refill_cells (sides_in l row).front (sides_in l row).rear)
+    l'
+    row'
 
--- a take at the near end
-abbrev pub Takes : {T : Type 0} → List T → List ListCell → ℕ → Side → Side → List ListCell → Ends → Type 0
-Takes items cells linked near far cells' ends =
-    Leaves
-    items
-    cells
-    linked
-    cells'
-    ends
-    (drop 1 (refilled (items_of items cells near) (items_of items cells far)).0)
-    (refilled (items_of items cells near) (items_of items cells far)).1
-    (refill_cells (items_of items cells near) (items_of items cells far))
-
--- a row over so many items and cells more that stand already
-pub record Addable {T : Type 0} (s : TwoListStore T) (row : VersionRow) (items cells : ℕ) : Type 0 where
-  pub closed : Closed s.tables.cells.now (s.kept + items) (s.linked + cells)
-  pub fitting : Fitting (s.linked + cells) s.longest row
-  pub few_items : items ≤ 1
-  pub few_cells : cells ≤ s.longest
-  pub sure : s.promised < least (shares_of s)
-
--- the store t with that row
-pub record Adds {T : Type 0} (s : TwoListStore T) (row : VersionRow) (items cells : ℕ) (t : TwoListStore T) : Type 0 where
-  pub versions : t.tables.versions.now ≡ slice_set s.tables.versions.now s.made row
-  pub items_same : t.tables.items.now ≡ s.tables.items.now
-  pub cells_same : t.tables.cells.now ≡ s.tables.cells.now
-  pub made : t.made ≡ s.made + 1
-  pub kept : t.kept ≡ s.kept + items
-  pub linked : t.linked ≡ s.linked + cells
-  pub longest : t.longest ≡ s.longest
-  pub number : t.number ≡ s.number
-  pub promised : t.promised ≡ s.promised
+-- a change
+abbrev pub Turned : {T : Type 0} → Lists T → VersionRow → Change T → Lists T → VersionRow → Type 0
+Turned l row c l' row' =
+    Leaves l (turned c (sides_in l row)) (items_filled c) (cells_filled c (sides_in l row)) l' row'

@@ -2,12 +2,14 @@
 #![tactic(auto)]
 
 mod kind;
+mod lent_table;
+mod lists;
 mod opening;
 mod reading;
 mod rebuild;
 mod rows;
-mod tables;
+mod two_list_store;
 mod writing;
 
 pub use rows::{ListCell, Side, VersionRow};
-pub use tables::{Tables, TwoListStore};
+pub use two_list_store::TwoListStore;

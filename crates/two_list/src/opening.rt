@@ -1,8 +1,10 @@
 // Opening a store.
 ghost use Rattle.two_list.specs.Stores.{Opens};
 
+use crate::lent_table::LentTable;
+use crate::lists::Lists;
 use crate::rows::{ListCell, VersionRow};
-use crate::tables::{Tables, TwoListStore};
+use crate::two_list_store::TwoListStore;
 
 impl<'a, T: Copy> TwoListStore<'a, T> {
     /// An empty store over lent tables. A longest length of 0 counts as 1, one above 1,000 as 1,000.
@@ -16,14 +18,11 @@ impl<'a, T: Copy> TwoListStore<'a, T> {
         ensures { Opens versions.old items.old cells.old longest number result }
     {
         TwoListStore {
-            tables: Tables {
-                versions,
-                items,
-                cells,
+            versions: LentTable::new(versions),
+            lists: Lists {
+                items: LentTable::new(items),
+                cells: LentTable::new(cells),
             },
-            made: 0,
-            kept: 0,
-            linked: 0,
             longest: longest.max(1).min(1000),
             number,
             promised: 0,

@@ -1,114 +1,88 @@
-// Writing the tables behind what is filled.
-ghost use Rattle.std.specs.Prelude.{◌≡◌, ◌+◌, ◌<◌, length, set, Some};
-ghost use Rattle.store.specs.Deques.{first};
-ghost use Rattle.two_list.specs.Sides.{refilled};
-ghost use Rattle.two_list.specs.Tables.{items_of};
-ghost use Rattle.two_list.specs.Writes.{Addable, Adds, Refills, Takeable, Takes};
+// Changing a version's lists, behind what is filled.
+ghost use Rattle.std.specs.Prelude.{◌≡◌, ◌+◌, ◌<◌, Some};
+ghost use Rattle.store.specs.Deques.{first, taken};
+ghost use Rattle.store.specs.declared.changes.Change.TheVariants.{Push, Pop};
+ghost use Rattle.two_list.specs.Sides.{list_of};
+ghost use Rattle.two_list.specs.Stores.{sides_in};
+ghost use Rattle.two_list.specs.Writes.{Enough, Refills, Roomy, Turned};
 
+use crate::lists::Lists;
 use crate::rebuild::rebuild;
 use crate::rows::{ListCell, Side, VersionRow};
-use crate::tables::{Tables, TwoListStore};
+use store::Change;
 
-/// The near and the far side of a version, and how many list cells were filled for them.
-#[derive(Clone, Copy)]
-pub(super) struct Ends {
-    pub(super) near: Side,
-    pub(super) far: Side,
-    pub(super) filled: u16,
-}
-
-impl<'a, T: Copy> Tables<'a, T> {
-    /// Rebuilds where the near side is empty.
-    fn refill(&mut self, near: Side, far: Side, linked: u16) -> Ends
-        requires { Takeable self.old.items.now self.old.cells.now linked near far }
-        ensures cells { Refills self.old.items.now self.old.cells.now linked near far self.new.cells.now result }
-        ensures items { self.new.items.now ≡ self.old.items.now }
-        ensures versions { self.new.versions.now ≡ self.old.versions.now }
+impl<'a, T: Copy> Lists<'a, T> {
+    /// The version with an item more in front.
+    fn lay(&mut self, row: VersionRow, item: T) -> VersionRow
+        requires { Roomy self.old row }
+        ensures { Turned self.old row (Push item) self.new result }
     {
-        if near.length > 0 {
-            return Ends {
-                near,
-                far,
-                filled: 0,
-            };
+        let item = self.items.push(item);
+        let next = row.front.cell;
+        let cell = self.cells.push(ListCell { item, next });
+        let front = Side {
+            cell,
+            length: row.front.length + 1,
+        };
+        VersionRow { front, ..row }
+    }
+
+    /// The version, rebuilt where its front list is empty: half of the rear list, rounded down, stays, and the rest
+    /// goes over, and begins at the last of the new cells.
+    fn refill(&mut self, row: VersionRow) -> VersionRow
+        requires { Roomy self.old row × (0 < row.front.length + row.rear.length) }
+        ensures { Refills self.old row self.new result }
+    {
+        if row.front.length > 0 {
+            return row;
         }
-        rebuild(self.cells, far, linked);
-        let stay = far.length / 2;
-        Ends {
-            near: Side {
-                cell: linked + far.length - 1,
-                length: far.length - stay,
+        let first = self.cells.filled();
+        let stay = row.rear.length / 2;
+        rebuild(&mut self.cells, row.rear, stay);
+        VersionRow {
+            front: Side {
+                cell: self.cells.filled() - 1,
+                length: row.rear.length - stay,
             },
-            far: Side {
-                cell: linked,
+            rear: Side {
+                cell: first,
                 length: stay,
             },
-            filled: far.length,
         }
     }
 
-    /// The end item of the near side, and what is left of the two sides.
-    pub(super) fn take(&mut self, near: Side, far: Side, linked: u16) -> (T, Ends)
-        requires { Takeable self.old.items.now self.old.cells.now linked near far }
-        ensures item { first (refilled (items_of self.old.items.now self.old.cells.now near) (items_of self.old.items.now self.old.cells.now far)).0 ≡ Some result.0 }
-        ensures cells { Takes self.old.items.now self.old.cells.now linked near far self.new.cells.now result.1 }
-        ensures items { self.new.items.now ≡ self.old.items.now }
-        ensures versions { self.new.versions.now ≡ self.old.versions.now }
+    /// The version without its first item, and that item.
+    fn take(&mut self, row: VersionRow) -> (VersionRow, T)
+        requires { Roomy self.old row × (0 < row.front.length + row.rear.length) }
+        ensures lists { Turned self.old row Pop self.new result.0 }
+        ensures item { Some result.1 ≡ first (list_of (sides_in self.old row)) }
     {
-        let ends = self.refill(near, far, linked);
-        let cell = self.cells[ends.near.cell as usize];
-        let rest = Side {
-            cell: cell.next,
-            length: ends.near.length - 1,
+        let row = self.refill(row);
+        let end = self.cells.get(row.front.cell);
+        let front = Side {
+            cell: end.next,
+            length: row.front.length - 1,
         };
-        let left = Ends {
-            near: rest,
-            far: ends.far,
-            filled: ends.filled,
-        };
-        (self.item(cell.item), left)
+        (VersionRow { front, ..row }, self.items.get(end.item))
     }
 
-    /// The near side with the item before its end, laid at the first free item place and cell.
-    pub(super) fn lay(&mut self, near: Side, item: T, kept: u16, linked: u16) -> Side
-        requires { (kept < length self.old.items.now) × (linked < length self.old.cells.now) × (near.length < 1000) }
-        ensures side { result ≡ record { cell = linked; length = near.length + 1 } }
-        ensures items { self.new.items.now ≡ set self.old.items.now kept item }
-        ensures cells { self.new.cells.now ≡ set self.old.cells.now linked (record { item = kept; next = near.cell }) }
-        ensures versions { self.new.versions.now ≡ self.old.versions.now }
+    /// The version after a change, and the item taken. What a change does in front, its twin does at the rear.
+    pub(super) fn turn(&mut self, row: VersionRow, change: &Change<T>) -> (VersionRow, Option<T>)
+        requires { Roomy self.old row × Enough change.now (row.front.length + row.rear.length) }
+        ensures lists { Turned self.old row change.now self.new result.0 }
+        ensures item { result.1 ≡ taken change.now (list_of (sides_in self.old row)) }
     {
-        self.items[kept as usize] = item;
-        self.cells[linked as usize] = ListCell {
-            item: kept,
-            next: near.cell,
-        };
-        Side {
-            cell: linked,
-            length: near.length + 1,
+        match change {
+            Change::Push(item) => (self.lay(row, *item), None),
+            Change::Inject(item) => (self.lay(row.mirrored(), *item).mirrored(), None),
+            Change::Pop => {
+                let (rest, item) = self.take(row);
+                (rest, Some(item))
+            }
+            Change::Eject => {
+                let (rest, item) = self.take(row.mirrored());
+                (rest.mirrored(), Some(item))
+            }
         }
-    }
-
-    fn put_version(&mut self, place: u16, row: VersionRow)
-        requires { place < length self.old.versions.now }
-        ensures versions { self.new.versions.now ≡ set self.old.versions.now place row }
-        ensures items { self.new.items.now ≡ self.old.items.now }
-        ensures cells { self.new.cells.now ≡ self.old.cells.now }
-    {
-        self.versions[place as usize] = row;
-    }
-}
-
-impl<'a, T: Copy> TwoListStore<'a, T> {
-    /// One version more, over so many items and cells more, which have been laid already.
-    pub(super) fn add(&mut self, row: VersionRow, items: u16, cells: u16) -> u16
-        requires { Addable self.old row items cells }
-        ensures version { result ≡ self.old.made + 1 }
-        ensures rest { Adds self.old row items cells self.new }
-    {
-        self.tables.put_version(self.made, row);
-        self.kept += items;
-        self.linked += cells;
-        self.made += 1;
-        self.made
     }
 }

@@ -1,8 +1,7 @@
-use Rattle.std.proofs.Common.{◌/◌, arith}
-use Rattle.two_list.proofs.Linking.{rebuild_turn}
+use Rattle.two_list.proofs.Linking.{rebuilding_more}
 use Rattle.two_list.proofs.rebuild.rebuild.Goals as goal
 
-pub loop-k-preserved : goal.loop-k-preserved
-loop-k-preserved c =
-    rebuild_turn c.args.cells.now c.loop-k.cells c.args.to c.args.far.length (c.args.far.length / 2) c.args.far.cell c.loop-k.k c.loop-k.at c.link.result
-    c.requires.0 (omega arith) (omega arith) (omega arith) c.loop-k.invariant c.link.ensures
+pub loop-preserved : goal.loop-preserved
+loop-preserved c =
+    rebuilding_more _ _ _ _ _ _ _ _ _ _ _ c.requires c.loop-test.true c.loop.invariant
+    c.get-cell.ensures c.filled.ensures c.filled-in-loop.ensures c.link-next.ensures c.push.ensures.places c.push.ensures.filled
