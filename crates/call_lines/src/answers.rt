@@ -5,12 +5,13 @@ ghost use Rattle.std.specs.Prelude.{Some};
 ghost use Rattle.store.specs.Replies.{reply_of};
 
 use std::fmt;
-use store::Answer;
+use store::{Answer, CallError, Outcome};
+use store_faults::Table;
 
-/// The line of an answer.
+/// The line of an answer. The answer's own type is another crate's, and only one of this crate's can be printed here.
 #[derive(Clone, Copy)]
 pub struct AnswerLine {
-    pub answer: Answer<u16>,
+    pub answer: Outcome<u16>,
 }
 
 impl fmt::Display for AnswerLine {
@@ -18,20 +19,20 @@ impl fmt::Display for AnswerLine {
 
     fn fmt<W: fmt::Write>(&self, f: &mut fmt::Formatter<W>) -> fmt::Result {
         match self.answer {
-            Answer::Value(n) => write!(f, "value\t{n}"),
-            Answer::Length(n) => write!(f, "length\t{n}"),
-            Answer::Item(Some(x)) => write!(f, "item\t{x}"),
-            Answer::Item(None) => write!(f, "none"),
-            Answer::Made(w, Some(x)) => write!(f, "version\t{w}\t{x}"),
-            Answer::Made(w, None) => write!(f, "version\t{w}"),
-            Answer::Reserved => write!(f, "reserved"),
-            Answer::Closed => write!(f, "closed"),
-            Answer::Refused(fault) => {
+            Ok(Answer::Value(n)) => write!(f, "value\t{n}"),
+            Ok(Answer::Length(n)) => write!(f, "length\t{n}"),
+            Ok(Answer::Item(Some(x))) => write!(f, "item\t{x}"),
+            Ok(Answer::Item(None)) => write!(f, "none"),
+            Ok(Answer::Made(w, Some(x))) => write!(f, "version\t{w}\t{x}"),
+            Ok(Answer::Made(w, None)) => write!(f, "version\t{w}"),
+            Ok(Answer::Reserved) => write!(f, "reserved"),
+            Ok(Answer::Closed) => write!(f, "closed"),
+            Err(CallError::Refused(fault)) => {
                 let number = fault.number();
-                let table = fault.table();
+                let table = fault.table().map_or(0, Table::number);
                 write!(f, "refused\t{number}\t{table}")
             }
-            Answer::NoSlot => write!(f, "no-slot"),
+            Err(CallError::NoSlot) => write!(f, "no-slot"),
         }
     }
 }

@@ -2,6 +2,7 @@
 #![tactic(auto)]
 
 mod answers;
+mod changes;
 mod lines;
 
 pub use answers::AnswerLine;

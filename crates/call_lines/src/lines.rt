@@ -3,8 +3,9 @@ ghost use Rattle.call_lines.specs.Lines.{line_row, opening_row};
 ghost use Rattle.script.specs.Tables.{join};
 ghost use Rattle.std.specs.Prelude.{Some};
 
+use crate::changes::ChangeRow;
 use std::fmt;
-use store::{Call, Change, Question};
+use store::{Call, Question};
 
 /// The first line: a two-list store's number, its longest length and the sizes of its tables.
 #[derive(Clone, Copy)]
@@ -57,18 +58,10 @@ impl fmt::Display for Line {
                 Question::Front(v) => write!(f, "front\t{v}"),
                 Question::Back(v) => write!(f, "back\t{v}"),
             },
-            Line::Call(Call::Make(v, change)) => match change {
-                Change::Push(x) => write!(f, "push\t{v}\t{x}"),
-                Change::Inject(x) => write!(f, "inject\t{v}\t{x}"),
-                Change::Pop => write!(f, "pop\t{v}"),
-                Change::Eject => write!(f, "eject\t{v}"),
-            },
-            Line::Call(Call::MakeUnder(slot, v, change)) => match change {
-                Change::Push(x) => write!(f, "under\t{slot}\tpush\t{v}\t{x}"),
-                Change::Inject(x) => write!(f, "under\t{slot}\tinject\t{v}\t{x}"),
-                Change::Pop => write!(f, "under\t{slot}\tpop\t{v}"),
-                Change::Eject => write!(f, "under\t{slot}\teject\t{v}"),
-            },
+            Line::Call(Call::Make(v, change)) => write!(f, "{}", ChangeRow(v, change)),
+            Line::Call(Call::MakeUnder(slot, v, change)) => {
+                write!(f, "under\t{slot}\t{}", ChangeRow(v, change))
+            }
             Line::Call(Call::Reserve(slot, count)) => write!(f, "reserve\t{slot}\t{count}"),
             Line::Call(Call::Close(slot)) => write!(f, "close\t{slot}"),
         }

@@ -3,18 +3,23 @@ ghost use Rattle.std.specs.Prelude.{◌≡◌};
 ghost use Rattle.call_text.specs.declared.errors.TextError.TheVariants.{Memory};
 
 use std::alloc::{AllocError, AllocFailed};
+use thiserror::Error;
 
-#[derive(Clone, Copy)]
+#[derive(Clone, Copy, PartialEq, Eq, Debug, Error)]
 pub enum TextError {
-    /// The line of this number, counted from 1, is none that a text of calls has.
+    /// Counted from 1.
+    #[error("line {0} is none that a text of calls has")]
     Line(usize),
+    #[error("no memory")]
     Memory,
 }
+
+// derived, the conversions would not say which error they give
 
 impl From<AllocError> for TextError {
     ghost from_gives = { λ _ r. r ≡ Memory };
 
-    fn from(_e: AllocError) -> TextError {
+    fn from(_: AllocError) -> TextError {
         TextError::Memory
     }
 }
@@ -22,7 +27,7 @@ impl From<AllocError> for TextError {
 impl<T: Drop> From<AllocFailed<T>> for TextError {
     ghost from_gives = { λ _ r. r ≡ Memory };
 
-    fn from(_e: AllocFailed<T>) -> TextError {
-        TextError::Memory
+    fn from(error: AllocFailed<T>) -> TextError {
+        TextError::from(AllocError::from(error))
     }
 }

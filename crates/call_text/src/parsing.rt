@@ -1,33 +1,19 @@
 // What a line may say, read as far as it goes: whether it is written in just this way is asked afterwards.
 use call_lines::{Line, Opening};
 use script_reader::split_once;
+use std::str::{self, FromStr};
 use store::{Call, Change, Question};
 
 /// The first field, and what stands behind it.
-fn first_field<'a>(text: &'a [u8]) -> (&'a [u8], &'a [u8]) {
-    match split_once(text, b'\t') {
-        Some((field, rest)) => (field, rest),
-        None => (text, b""),
-    }
+fn first_field(text: &[u8]) -> (&[u8], &[u8]) {
+    split_once(text, b'\t').unwrap_or((text, b""))
 }
 
-fn long(field: &[u8]) -> Option<u32> {
-    let mut value = 0u32;
-    for b in field {
-        if !b.is_ascii_digit() {
-            return None;
-        }
-        value = value.checked_mul(10)?.checked_add(u32::from(*b - b'0'))?;
-    }
-    Some(value)
-}
-
-fn short(field: &[u8]) -> Option<u16> {
-    u16::try_from(long(field)?).ok()
-}
-
-fn tiny(field: &[u8]) -> Option<u8> {
-    u8::try_from(long(field)?).ok()
+fn numeral<N: FromStr>(field: &[u8]) -> Option<N>
+where
+    N::Err: Drop,
+{
+    str::from_utf8(field).ok()?.parse().ok()
 }
 
 pub(super) fn parse_opening(text: &[u8]) -> Option<Opening> {
@@ -38,11 +24,11 @@ pub(super) fn parse_opening(text: &[u8]) -> Option<Opening> {
     let (items, cells) = first_field(rest);
     match word {
         b"two-list" => Some(Opening {
-            number: long(number)?,
-            longest: short(longest)?,
-            versions: short(versions)?,
-            items: short(items)?,
-            cells: short(cells)?,
+            number: numeral(number)?,
+            longest: numeral(longest)?,
+            versions: numeral(versions)?,
+            items: numeral(items)?,
+            cells: numeral(cells)?,
         }),
         _ => None,
     }
@@ -51,10 +37,10 @@ pub(super) fn parse_opening(text: &[u8]) -> Option<Opening> {
 fn parse_change(text: &[u8]) -> Option<(u16, Change<u16>)> {
     let (word, rest) = first_field(text);
     let (version, item) = first_field(rest);
-    let version = short(version)?;
+    let version = numeral(version)?;
     match word {
-        b"push" => Some((version, Change::Push(short(item)?))),
-        b"inject" => Some((version, Change::Inject(short(item)?))),
+        b"push" => Some((version, Change::Push(numeral(item)?))),
+        b"inject" => Some((version, Change::Inject(numeral(item)?))),
         b"pop" => Some((version, Change::Pop)),
         b"eject" => Some((version, Change::Eject)),
         _ => None,
@@ -69,10 +55,10 @@ fn parse_question(text: &[u8]) -> Option<Question> {
         b"number" => Some(Question::Number),
         b"credit" => Some(Question::Credit),
         b"promised" => Some(Question::Promised),
-        b"length" => Some(Question::Length(short(version)?)),
-        b"item" => Some(Question::Item(short(version)?, short(place)?)),
-        b"front" => Some(Question::Front(short(version)?)),
-        b"back" => Some(Question::Back(short(version)?)),
+        b"length" => numeral(version).map(Question::Length),
+        b"item" => Some(Question::Item(numeral(version)?, numeral(place)?)),
+        b"front" => numeral(version).map(Question::Front),
+        b"back" => numeral(version).map(Question::Back),
         _ => None,
     }
 }
@@ -83,13 +69,13 @@ fn parse_call(text: &[u8]) -> Option<Call<u16>> {
     match word {
         b"under" => {
             let (version, change) = parse_change(more)?;
-            Some(Call::MakeUnder(tiny(slot)?, version, change))
+            Some(Call::MakeUnder(numeral(slot)?, version, change))
         }
-        b"reserve" => Some(Call::Reserve(tiny(slot)?, short(more)?)),
-        b"close" => Some(Call::Close(tiny(slot)?)),
+        b"reserve" => Some(Call::Reserve(numeral(slot)?, numeral(more)?)),
+        b"close" => numeral(slot).map(Call::Close),
         _ => match parse_change(text) {
             Some((version, change)) => Some(Call::Make(version, change)),
-            None => Some(Call::Ask(parse_question(text)?)),
+            None => parse_question(text).map(Call::Ask),
         },
     }
 }
@@ -97,7 +83,7 @@ fn parse_call(text: &[u8]) -> Option<Call<u16>> {
 pub(super) fn parse_line(text: &[u8]) -> Option<Line> {
     let (word, rest) = first_field(text);
     match word {
-        b"list" => Some(Line::List(short(rest)?)),
-        _ => Some(Line::Call(parse_call(text)?)),
+        b"list" => numeral(rest).map(Line::List),
+        _ => parse_call(text).map(Line::Call),
     }
 }
