@@ -12,6 +12,8 @@ pub enum ReadError {
     Memory,
 }
 
+// derived, the conversions would not say which error they give
+
 impl From<Refusal> for ReadError {
     ghost from_gives = { λ q r. r ≡ Refused q };
 

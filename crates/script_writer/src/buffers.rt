@@ -19,6 +19,8 @@ pub enum WriteError {
     Memory,
 }
 
+// derived, the conversion would not say which error it gives
+
 impl From<AllocError> for WriteError {
     ghost from_gives = { λ _ r. r ≡ Memory };
 
