@@ -25,8 +25,8 @@ fn calls_of(heap: Global, lines: &[Line]) -> Result<Vec<Call<u16>>, AllocError>
     lines.iter().copied().map(call_of).collect(heap)
 }
 
-/// The item at a place of a version.
-fn item_at<S: DequeStore<u16>>(store: &S, version: u16, place: u16) -> u16
+/// The item of a version at a place that it has.
+fn item_of<S: DequeStore<u16>>(store: &S, version: u16, place: u16) -> u16
     requires { place < length (list_of_version (S.meaning store.now) version) }
     ensures { result ≡ slice_index (list_of_version (S.meaning store.now) version) place }
 {
@@ -43,7 +43,7 @@ fn write_items<S: DequeStore<u16>>(
 {
     // a store gives an item by its place, and has no iterator over them
     for place in 0..store.length(version).unwrap_or(0) {
-        let item = item_at(store, version, place);
+        let item = item_of(store, version, place);
         write!(out, "\t{item}")?;
     }
     Ok(())

@@ -34,7 +34,7 @@ pub record Passed (before : Line) (passed : Field) (after : Line) : Type 0 where
   pub fields : fields_left after ≡ drop 1 (fields_left before)
   pub number : after.number ≡ before.number
 
--- the reader went past one line
+-- the reader went past one line: a step from one reader to the next, which no invariant of a reader can hold
 pub record Onward (before after : Reader) : Type 0 where
   pub rows : rows_left after ≡ drop 1 (rows_left before)
   pub line : after.line ≡ before.line + 1

@@ -10,7 +10,7 @@ use crate::changes::Change;
 use crate::deque_store::DequeStore;
 use crate::reservations::{Held, Kept, Reservation};
 
-/// A store, and the slots in which its open reservations lie.
+/// A store, and the slots in which its open reservations lie: lent, and named in calls by their numbers.
 #[derive(Drop)]
 pub(super) struct Caller<'a, S> {
     pub(super) store: &'a mut S,

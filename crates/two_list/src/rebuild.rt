@@ -24,6 +24,7 @@ pub(super) fn rebuild(cells: &mut LentTable<ListCell>, far: Side, stay: u16)
 {
     let middle = cells.filled() + stay;
     let mut at = far.cell;
+    // a step for each link, and no index: the list is walked by its cells, in the table that grows meanwhile
     for _ in 0..far.length {
         let cell = cells.get(at);
         let next = link(cells.filled(), middle);

@@ -5,7 +5,7 @@ ghost use Rattle.script_writer.specs.Buffers.{Copied, write_number};
 use super::WriteError;
 
 impl WriteError {
-    /// The number of the refusal; none for want of memory.
+    /// The number by which the pages name the refusal; none for want of memory.
     pub fn number(self) -> Option<u8>
         ensures { result ≡ write_number self }
     {
@@ -16,7 +16,8 @@ impl WriteError {
     }
 }
 
-/// Copies the bytes to the front of the buffer and answers how many there are.
+/// Copies the bytes to the front of the buffer and answers how many there are: the caller lends the buffer, and no
+/// heap is asked for.
 pub fn copy_whole(bytes: &[u8], buffer: &mut [u8]) -> Result<usize, WriteError>
     ensures { Copied bytes.now buffer.old buffer.new result }
 {
