@@ -24,14 +24,14 @@ pub join_parts : (s : ℕ) (t : List ℕ) → join s (parts s t) ≡ t
 join_parts s t = join_with_byte-slice_split s t
 
 -- parting, where the first part does not hold the separator
-pub parts_last : (s : ℕ) (p : List ℕ) → Free s p → parts s p ≡ p ∷ []
+parts_last : (s : ℕ) (p : List ℕ) → Free s p → parts s p ≡ p ∷ []
 parts_last s p h = slice_split_none (λ b. eqb b s) p (λ k d below. All-get_or (λ b. eqb b s ≡ false) p k d below h)
 
-pub parts_more : (s : ℕ) (p q : List ℕ) → Free s p → parts s (p ++ s ∷ q) ≡ p ∷ parts s q
+parts_more : (s : ℕ) (p q : List ℕ) → Free s p → parts s (p ++ s ∷ q) ≡ p ∷ parts s q
 parts_more s p q h = slice_split_at (λ b. eqb b s) p s q (λ k d below. All-get_or (λ b. eqb b s ≡ false) p k d below h) (eq-eqb s s refl)
 
 -- parts that do not hold the separator are those of the text that they make
-pub parts_join : (s : ℕ) (ps : List (List ℕ)) → 0 < length ps → All (Free s) ps → parts s (join s ps) ≡ ps
+parts_join : (s : ℕ) (ps : List (List ℕ)) → 0 < length ps → All (Free s) ps → parts s (join s ps) ≡ ps
 parts_join s [] some h = let w : ⊥ = omega arith in absurd w
 parts_join s (p ∷ []) some h = parts_last s p h.0
 parts_join s (p ∷ q ∷ ps) some h = parts_more s p (join s (q ∷ ps)) h.0 ∙ ap {B = List (List ℕ)} (λ z. p ∷ z) (parts_join s (q ∷ ps) (omega arith) h.1)
@@ -43,7 +43,7 @@ all_join P s here (p ∷ []) h = h.0
 all_join P s here (p ∷ q ∷ ps) h = All-append P p (s ∷ join s (q ∷ ps)) h.0 (here, all_join P s here (q ∷ ps) h.1)
 
 -- the table of a text makes it again
-pub join_table : (t : List ℕ) → join 10 (map (join 9) (table t)) ≡ t
+join_table : (t : List ℕ) → join 10 (map (join 9) (table t)) ≡ t
 unfolding table
 join_table t = ap (join 10) (each (parts 10 t)) ∙ join_parts 10 t
   where

@@ -30,7 +30,7 @@ impl<'a> Line<'a> {
         self.number
     }
 
-    /// The next field, empty where there is none.
+    /// The next field, empty where there is none: that is no number, and a line that was opened has each that is read.
     pub(crate) fn field(&mut self) -> Field<'a>
         ensures { Passed self.old result self.new }
     {

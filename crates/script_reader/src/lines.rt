@@ -59,13 +59,11 @@ pub(crate) fn read_start(reader: &mut Reader, states: u8, width: u8) -> Result<S
 }
 
 /// Whether the goal is above the last one before it.
+#[tactic(auto, using(crate::proofs::Rising::above_none, crate::proofs::Rising::above_last))]
 fn rises(before: &[u8], goal: u8) -> bool
     ensures { result ≡ above before.now goal }
 {
-    match before {
-        [] => true,
-        [.., last] => *last < goal,
-    }
+    before.last().is_none_or(|last| *last < goal)
 }
 
 /// The line `goal`, state, behind the goals before it.

@@ -27,7 +27,6 @@ pub(crate) fn first_part(text: &[u8], separator: u8) -> &[u8]
 
 /// How many parts there are.
 pub(crate) fn count_parts(text: &[u8], separator: u8) -> usize
-    requires { length text.now ≤ 4096 }
     ensures { result ≡ length (parts separator text.now) }
 {
     1 + text.iter().filter(|b| **b == separator).count()

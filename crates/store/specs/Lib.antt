@@ -8,5 +8,5 @@ pub mod Replies
 pub mod History
 pub mod Calls
 pub mod Replays
-pub mod Callers
+pub mod Replayers
 pub mod Worked

@@ -52,6 +52,8 @@ pub enum CallError {
     NoSlot,
 }
 
+// derived, the conversion would not say which error it gives
+
 impl From<Fault> for CallError {
     ghost from_gives = { λ fault error. error ≡ Refused fault };
 

@@ -1,10 +1,10 @@
 // Stores of deque versions: what every kind of store shares, proved once.
 #![tactic(auto)]
 
-mod caller;
 mod calls;
 mod changes;
 mod deque_store;
+mod replayer;
 mod replaying;
 mod reservations;
 mod theorems;

@@ -2,9 +2,9 @@
 ghost use Rattle.std.specs.Prelude.{◌≡◌, MatchResult};
 ghost use Rattle.store.specs.Replays.{Replayed};
 
-use crate::caller::Caller;
 use crate::calls::{Call, Outcome};
 use crate::deque_store::DequeStore;
+use crate::replayer::Replayer;
 use crate::reservations::Held;
 use std::alloc::{AllocError, Global};
 
@@ -18,9 +18,9 @@ pub fn replay<T: Copy, S: DequeStore<T>>(
     ensures { MatchResult result (λ answers. Replayed S.meaning S.goes S.grows store.old slots.old calls.now answers.items store.new slots.new) (λ _. (store.new ≡ store.old) × (slots.new ≡ slots.old)) }
 {
     let mut answers = Vec::with_capacity(heap, calls.len())?;
-    let mut caller = Caller { store, slots };
+    let mut replayer = Replayer { store, slots };
     for call in calls {
-        let answer = caller.carry_out(*call);
+        let answer = replayer.carry_out(*call);
         answers.push_reserved(answer);
     }
     Ok(answers)

@@ -3,7 +3,7 @@ ghost use Rattle.std.specs.Prelude.{◌≡◌};
 
 use store_faults::Fault;
 
-/// A reservation that lies in a slot.
+/// What a reservation holds, and what lies in a slot: the number of its store, and the changes that are left.
 #[derive(Clone, Copy)]
 pub struct Held {
     pub(super) number: u32,

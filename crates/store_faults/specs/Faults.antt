@@ -24,11 +24,6 @@ refusal_of Spent = (5, 0)
 refusal_of (NoCredit t) = (6, table_number t)
 refusal_of Count = (7, 0)
 
--- the table that a refusal names
-abbrev pub named_table : Fault → Option Table
-named_table (NoCredit t) = Some t
-named_table f = None
-
 -- the number of a table that may be missing, or 0
 abbrev pub table_of : Option Table → ℕ
 table_of (Some t) = table_number t

@@ -1,6 +1,6 @@
 // The numbers of refusals.
 ghost use Rattle.std.specs.Prelude.{◌≡◌};
-ghost use Rattle.store_faults.specs.Faults.{named_table, refusal_of, table_number, table_of};
+ghost use Rattle.store_faults.specs.Faults.{refusal_of, table_number, table_of};
 
 use crate::faults::{Fault, Table};
 
@@ -30,8 +30,7 @@ impl Fault {
 
     /// The table that it names.
     pub fn table(self) -> Option<Table>
-        ensures table { result ≡ named_table self }
-        ensures number { table_of result ≡ (refusal_of self).1 }
+        ensures { table_of result ≡ (refusal_of self).1 }
     {
         match self {
             Fault::NoCredit(table) => Some(table),

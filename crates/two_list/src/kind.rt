@@ -36,11 +36,11 @@ impl<'a, T: Copy> DequeStore<T> for TwoListStore<'a, T> {
     }
 
     fn short_table(&self, count: u32) -> Option<Table> {
-        if (self.versions.free() as u32) < count {
+        if u32::from(self.versions.free()) < count {
             Some(Table::Versions)
-        } else if (self.lists.items.free() as u32) < count {
+        } else if u32::from(self.lists.items.free()) < count {
             Some(Table::Items)
-        } else if (self.cell_share() as u32) < count {
+        } else if u32::from(self.cell_share()) < count {
             Some(Table::Cells)
         } else {
             None

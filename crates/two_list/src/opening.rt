@@ -23,7 +23,7 @@ impl<'a, T: Copy> TwoListStore<'a, T> {
                 items: LentTable::new(items),
                 cells: LentTable::new(cells),
             },
-            longest: longest.max(1).min(1000),
+            longest: longest.clamp(1, 1000),
             number,
             promised: 0,
         }

@@ -14,7 +14,6 @@ use std::alloc::Global;
 
 /// Whether the line begins with the word and has the number of fields.
 fn has_shape(line: &[u8], word: &[u8], count: usize) -> bool
-    requires { length line.now ≤ 4096 }
     ensures { result ≡ shaped word.now count (parts 9 line.now) }
 {
     first_part(line, b'\t') == word && count_parts(line, b'\t') == count

@@ -7,7 +7,7 @@ invariant-loop-call g l =
     record {
       every : vec_len l.answers ≡ l.call-index;
       room : length l.calls ≤ vec_capacity l.answers;
-      same_store : l.caller.store.ghost_name ≡ l.initial.caller.store.ghost_name;
-      same_slots : l.caller.slots.ghost_name ≡ l.initial.caller.slots.ghost_name;
-      runs : Runs g.S.DequeStore.meaning g.S.DequeStore.goes g.S.DequeStore.grows l.initial.caller.store.now l.initial.caller.slots.now (take l.call-index l.calls) (vec_items l.answers) l.caller.store.now l.caller.slots.now;
+      same_store : l.replayer.store.ghost_name ≡ l.initial.replayer.store.ghost_name;
+      same_slots : l.replayer.slots.ghost_name ≡ l.initial.replayer.slots.ghost_name;
+      runs : Runs g.S.DequeStore.meaning g.S.DequeStore.goes g.S.DequeStore.grows l.initial.replayer.store.now l.initial.replayer.slots.now (take l.call-index l.calls) (vec_items l.answers) l.replayer.store.now l.replayer.slots.now;
     }

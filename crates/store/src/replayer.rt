@@ -1,6 +1,6 @@
 // One call at a time on any store, with the open reservations in slots.
 ghost use Rattle.std.specs.Prelude.{◌≡◌};
-ghost use Rattle.store.specs.Callers.{Carried};
+ghost use Rattle.store.specs.Replayers.{Carried};
 ghost use Rattle.store.specs.Calls.{Holds, answer_to, free};
 ghost use Rattle.store.specs.Replies.{reply_of};
 ghost use Rattle.store.specs.declared.calls.Call.TheVariants.{Ask, Make, MakeUnder, Reserve, Close};
@@ -12,12 +12,12 @@ use crate::reservations::{Held, Kept, Reservation};
 
 /// A store, and the slots in which its open reservations lie: lent, and named in calls by their numbers.
 #[derive(Drop)]
-pub(super) struct Caller<'a, S> {
+pub(super) struct Replayer<'a, S> {
     pub(super) store: &'a mut S,
     pub(super) slots: &'a mut [Option<Held>],
 }
 
-impl<S> Caller<'_, S> {
+impl<S> Replayer<'_, S> {
     /// Carries out one call.
     pub(super) fn carry_out<T: Copy>(&mut self, call: Call<T>) -> Outcome<T>
     where
