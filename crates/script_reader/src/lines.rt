@@ -13,6 +13,8 @@ const MOST_GOALS: usize = 8;
 
 const MOST_RULES: usize = 64;
 
+// Below, the number of states goes beside the reader: it is known only once the first line is read.
+
 /// What the first line says.
 #[derive(Clone, Copy)]
 pub(crate) struct Head {

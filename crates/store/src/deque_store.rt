@@ -138,7 +138,9 @@ pub trait DequeStore<T: Copy> {
         Ok(self.make(version, change, &Accounting(())))
     }
 
-    // The four changes by their names, here and under a reservation: each is two lines over `change` or `change_under`.
+    // A version and a change stand apart, as a version stands alone in the questions: a pair would be made for each call
+    // only to be taken apart. The four changes by their names, here and under a reservation, are two lines each over
+    // `change` or `change_under`.
 
     /// A version with the item in front.
     fn push(&mut self, version: u16, item: T) -> Result<u16, Fault>

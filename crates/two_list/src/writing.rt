@@ -11,6 +11,8 @@ use crate::rebuild::rebuild;
 use crate::rows::{ListCell, Side, VersionRow};
 use store::Change;
 
+// `Roomy` ties a version to the lists that it lies in, so neither type can have it as an invariant.
+
 impl<'a, T: Copy> Lists<'a, T> {
     /// The version with an item more in front.
     fn lay(&mut self, row: VersionRow, item: T) -> VersionRow
