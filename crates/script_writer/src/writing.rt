@@ -1,10 +1,10 @@
 // From a script to its text.
-ghost use Rattle.std.specs.Prelude.{◌≡◌, ◌++◌, IfOk, Ok, OnOk};
+ghost use Rattle.std.specs.Prelude.{◌≡◌, ℕ, List, ◌++◌, IfOk, Ok, OnOk};
 ghost use Rattle.script.specs.Contents.{rule_content};
 ghost use Rattle.script.specs.Reading.{reading};
 ghost use Rattle.script.specs.Scripts.{content};
 ghost use Rattle.script.specs.Tables.{line};
-ghost use Rattle.script.specs.Texts.{act_text, acts_text, goal_row, head_row, rule_row, start_row, text};
+ghost use Rattle.script.specs.Texts.{act_text, goal_row, head_row, rule_row, start_row, text};
 ghost use Rattle.script_writer.specs.Buffers.{Written};
 ghost use Rattle.std.specs.List.{flat_map};
 
@@ -12,6 +12,7 @@ use crate::buffers::{WriteError, copy_whole};
 use script::{Act, Rule, Script};
 use std::alloc::{AllocError, Global};
 
+#[tactic(auto, using(std::proofs::Common::append_assoc, std::proofs::lemmas::Fmt::decimal_digit))]
 fn put_head(out: &mut Vec<u8>, script: &Script) -> Result<(), AllocError>
     ensures { OnOk result (out.new.items ≡ out.old.items ++ line (head_row (content script.now))) }
 {
@@ -19,8 +20,7 @@ fn put_head(out: &mut Vec<u8>, script: &Script) -> Result<(), AllocError>
         "script\t1\t{}\t{}\t{}\n",
         script.states, script.width, script.depth
     )?;
-    out.extend_from_slice(head.as_bytes())?;
-    Ok(())
+    out.extend_from_slice(head.as_bytes())
 }
 
 #[tactic(auto, using(std::proofs::Common::append_assoc))]
@@ -34,14 +34,32 @@ fn put_start(out: &mut Vec<u8>, script: &Script) -> Result<(), AllocError>
     Ok(())
 }
 
-fn put_goals(out: &mut Vec<u8>, goals: &[u8]) -> Result<(), AllocError>
-    ensures { OnOk result (out.new.items ≡ out.old.items ++ flat_map (λ g. line (goal_row g)) goals.now) }
+/// What has a text of its own.
+trait Put {
+    ghost text: { Self → List ℕ };
+
+    fn put(&self, out: &mut Vec<u8>) -> Result<(), AllocError>
+        ensures { OnOk result (out.new.items ≡ out.old.items ++ text self.now) };
+}
+
+fn put_all<X: Put>(out: &mut Vec<u8>, items: &[X]) -> Result<(), AllocError>
+    ensures { OnOk result (out.new.items ≡ out.old.items ++ flat_map X.text items.now) }
 {
-    for goal in goals {
-        let row = format!(in *out.allocator(); "goal\t{goal}\n")?;
-        out.extend_from_slice(row.as_bytes())?;
+    for item in items {
+        item.put(out)?;
     }
     Ok(())
+}
+
+// a goal: the marks, which are bytes too, are written as they are
+
+impl Put for u8 {
+    ghost text = { λ g. line (goal_row g) };
+
+    fn put(&self, out: &mut Vec<u8>) -> Result<(), AllocError> {
+        let row = format!(in *out.allocator(); "goal\t{self}\n")?;
+        out.extend_from_slice(row.as_bytes())
+    }
 }
 
 fn act_bytes(act: Act) -> [u8; 2]
@@ -55,33 +73,25 @@ fn act_bytes(act: Act) -> [u8; 2]
     }
 }
 
-fn put_acts(out: &mut Vec<u8>, acts: &[Act]) -> Result<(), AllocError>
-    ensures { OnOk result (out.new.items ≡ out.old.items ++ acts_text acts.now) }
-{
-    for act in acts {
-        out.extend_from_slice(&act_bytes(*act))?;
+impl Put for Act {
+    ghost text = { act_text };
+
+    fn put(&self, out: &mut Vec<u8>) -> Result<(), AllocError> {
+        out.extend_from_slice(&act_bytes(*self))
     }
-    Ok(())
 }
 
-#[tactic(auto, using(std::proofs::Common::append_assoc))]
-fn put_rule(out: &mut Vec<u8>, rule: &Rule) -> Result<(), AllocError>
-    ensures { OnOk result (out.new.items ≡ out.old.items ++ line (rule_row (rule_content rule.now))) }
-{
-    let states = format!(in *out.allocator(); "rule\t{}\t{}\t", rule.from, rule.to)?;
-    out.extend_from_slice(states.as_bytes())?;
-    put_acts(out, &rule.acts)?;
-    out.push(b'\n')?;
-    Ok(())
-}
+impl Put for Rule {
+    ghost text = { λ r. line (rule_row (rule_content r)) };
 
-fn put_rules(out: &mut Vec<u8>, rules: &[Rule]) -> Result<(), AllocError>
-    ensures { OnOk result (out.new.items ≡ out.old.items ++ flat_map (λ x. line (rule_row (rule_content x))) rules.now) }
-{
-    for rule in rules {
-        put_rule(out, rule)?;
+    #[tactic(auto, using(std::proofs::Common::append_assoc))]
+    fn put(&self, out: &mut Vec<u8>) -> Result<(), AllocError> {
+        let states = format!(in *out.allocator(); "rule\t{}\t{}\t", self.from, self.to)?;
+        out.extend_from_slice(states.as_bytes())?;
+        put_all(out, &self.acts)?;
+        out.push(b'\n')?;
+        Ok(())
     }
-    Ok(())
 }
 
 /// The text of the script, which reads as that script.
@@ -92,8 +102,8 @@ pub fn render(heap: Global, script: &Script) -> Result<Vec<u8>, AllocError>
     let mut out = Vec::new(heap);
     put_head(&mut out, script)?;
     put_start(&mut out, script)?;
-    put_goals(&mut out, &script.goals)?;
-    put_rules(&mut out, &script.rules)?;
+    put_all(&mut out, &script.goals)?;
+    put_all(&mut out, &script.rules)?;
     Ok(out)
 }
 
