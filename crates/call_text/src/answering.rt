@@ -33,7 +33,8 @@ fn item_of<S: DequeStore<u16>>(store: &S, version: u16, place: u16) -> u16
     store.item(version, place).unwrap().unwrap()
 }
 
-// Below, the store is read and `out` is written to: one value of both would only be lent anew at each call.
+// Below, the store is read and `out` is written to: one value of both would only be lent anew at each call. The clauses
+// say what a call appends, a step from one text to the next.
 
 /// Writes the items of a version, each behind a tab.
 fn write_items<S: DequeStore<u16>>(

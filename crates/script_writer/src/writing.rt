@@ -12,6 +12,8 @@ use crate::buffers::{WriteError, copy_whole};
 use script::{Act, Rule, Script};
 use std::alloc::{AllocError, Global};
 
+// The clauses say what a call appends: a step from one text to the next, which no invariant of a text can hold.
+
 #[tactic(auto, using(std::proofs::Common::append_assoc, std::proofs::lemmas::Fmt::decimal_digit))]
 fn put_head(out: &mut Vec<u8>, script: &Script) -> Result<(), AllocError>
     ensures { OnOk result (out.new.items ≡ out.old.items ++ line (head_row (content script.now))) }
