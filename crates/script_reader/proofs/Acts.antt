@@ -1,38 +1,45 @@
--- The acts of a field: a letter and a mark, and then the acts behind them.
-use Rattle.std.proofs.Common.{◌≡◌, ℕ, ◌-◌, ◌*◌, ◌<◌, ◌≤◌, true, leb, List, [], ◌∷◌, length, get_or, take, drop, is_some, is_ok, Some, None, Ok, Err, Option, Result, sym, refl, ap, ◌∙◌, arith}
+-- The acts of a field, pair by pair, and how many they may be.
+use Rattle.std.proofs.Common.{◌≡◌, ℕ, zero, suc, ◌*◌, ◌/◌, ◌%◌, ◌<◌, ◌≤◌, Bool, true, false, if◌then◌else◌, ◌&&◌, leb, List, [], ◌∷◌, length, is_some, is_ok, Some, None, Ok, Err, Option, Result, refl, ap, ◌∙◌, arith}
 use Rattle.script.specs.Fields.{◌>>=◌, ◌>>◌, ask, act_of, acts, acts_in, before}
 use Rattle.script.proofs.Letters.{acts_is, length_acts}
 use Rattle.script.specs.declared.rules.Act.{Act}
 use Rattle.script.specs.declared.refusals.Refusal.{Refusal}
 use Rattle.script.specs.declared.refusals.Refusal.TheVariants.{Letters}
-use Rattle.std.proofs.lemmas.List.{take_all}
 use Rattle.std.proofs.lemmas.Bool.{le-leb, lt-leb}
+use Rattle.std.specs.List.{list_all, filter_map, cons_option}
 use Rattle.std.specs.Option.{ok_or}
+use Rattle.std.specs.Simd.{first_chunks}
+use Rattle.script_reader.specs.Pairs.{act_of_pair}
 
--- a letter and its mark, and the acts behind them
-first_act : (f : List ℕ) (a : Act) → 2 ≤ length f → act_of (get_or f 0 0) (get_or f 1 0) ≡ Some a → acts f ≡ before (Some a) (acts (take (length f - 2) (drop 2 f)))
-first_act [] a h e = absurd (omega arith)
-first_act (l ∷ []) a h e = absurd (omega arith)
-first_act (l ∷ m ∷ rest) a h e =
-    let fits : length rest ≤ length (l ∷ m ∷ rest) - 2 = omega arith in
-    rw (take_all (length (l ∷ m ∷ rest) - 2) rest fits, e)
+-- the acts that the pairs are, where each is one
+abbrev all_acts : List (List ℕ) → Option (List Act)
+all_acts pairs = if list_all (λ p. is_some (act_of_pair p)) pairs then Some (filter_map act_of_pair pairs) else None
 
-module _ (f : List ℕ) (a : Act) (two : 2 ≤ length f) (is : act_of (get_or f 0 0) (get_or f 1 0) ≡ Some a) where
-  abbrev behind : List ℕ
-  behind = take (length f - 2) (drop 2 f)
+before_all : (o : Option Act) (b : Bool) (rest : List Act) → before o (if b then Some rest else None) ≡ (if is_some o && b then Some (cons_option o rest) else None)
+before_all None b rest = refl
+before_all (Some a) false rest = refl
+before_all (Some a) true rest = refl
 
-  pub more_acts : (rest : List Act) → Some rest ≡ acts behind → Some (a ∷ rest) ≡ acts f
-  more_acts rest e = ap (before (Some a)) e ∙ sym (first_act f a two is)
+paired : (k : ℕ) (f : List ℕ) → length f ≡ k * 2 → acts f ≡ all_acts (first_chunks 2 k f)
+paired zero [] e = refl
+paired zero (l ∷ f) e = absurd (omega arith)
+paired (suc k) [] e = absurd (omega arith)
+paired (suc k) (l ∷ []) e = absurd (omega arith)
+paired (suc k) (l ∷ m ∷ f) e = ap (before (act_of l m)) (paired k f (omega arith)) ∙ before_all (act_of l m) _ _
 
-  pub no_more_acts : None ≡ acts behind → None ≡ acts f
-  no_more_acts e = ap (before (Some a)) e ∙ sym (first_act f a two is)
+-- a field of an even length is read pair by pair
+pub even : (f : List ℕ) → length f % 2 ≡ 0 → acts f ≡ all_acts (first_chunks 2 (length f / 2) f)
+even f e = paired (length f / 2) f (omega arith)
 
-  pub some_acts : is_some (acts behind) ≡ true → is_some (acts f) ≡ true
-  some_acts e = ap is_some (first_act f a two is) ∙ some_before (acts behind) e
-    where
-      some_before : (o : Option (List Act)) → is_some o ≡ true → is_some (before (Some a) o) ≡ true
-      some_before None h = h
-      some_before (Some rest) h = refl
+before_none : (o : Option Act) → before o None ≡ None
+before_none None = refl
+before_none (Some a) = refl
+
+-- one of an odd length is not acts
+pub odd : (f : List ℕ) → 0 < length f % 2 → acts f ≡ None
+odd [] h = absurd (omega arith)
+odd (l ∷ []) h = refl
+odd (l ∷ m ∷ f) h = ap (before (act_of l m)) (odd f (omega arith)) ∙ before_none (act_of l m)
 
 -- two bytes for each act
 sized : (f : List ℕ) (all : List Act) → acts f ≡ Some all → length f ≡ 2 * length all

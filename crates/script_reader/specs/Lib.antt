@@ -1,3 +1,4 @@
 pub mod Answers
 pub mod Meanings
+pub mod Pairs
 pub mod Places

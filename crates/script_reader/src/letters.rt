@@ -1,7 +1,8 @@
 // Marks and acts as a text has them.
-ghost use Rattle.std.specs.Prelude.{◌≡◌, true, is_some, vec_items, MatchResult};
-ghost use Rattle.std.specs.List.{list_all};
-ghost use Rattle.script.specs.Fields.{act_of, acts};
+ghost use Rattle.std.specs.Prelude.{◌≡◌, true, is_some, vec_items, IfOk, MatchResult};
+ghost use Rattle.std.specs.List.{list_all, filter_map};
+ghost use Rattle.script.specs.Fields.{acts};
+ghost use Rattle.script_reader.specs.Pairs.{act_of_pair};
 ghost use Rattle.script.specs.Soundness.{is_mark};
 ghost use Rattle.std.specs.Option.{option_map};
 
@@ -22,9 +23,10 @@ pub(crate) fn are_marks(field: &[u8]) -> bool
 }
 
 /// The act of a letter and a mark.
-fn act_of(letter: u8, mark: u8) -> Option<Act>
-    ensures { result ≡ act_of letter mark }
+fn act_of_pair(pair: &[u8; 2]) -> Option<Act>
+    ensures { result ≡ act_of_pair pair.now }
 {
+    let [letter, mark] = *pair;
     if !is_mark(mark) {
         return None;
     }
@@ -37,23 +39,31 @@ fn act_of(letter: u8, mark: u8) -> Option<Act>
     }
 }
 
+/// Whether each pair is an act.
+fn are_acts(pairs: &[[u8; 2]]) -> bool
+    ensures { result ≡ list_all (λ p. is_some (act_of_pair p)) pairs.now }
+{
+    pairs.iter().all(|pair| act_of_pair(pair).is_some())
+}
+
+/// The acts among the pairs.
+fn acts_among(heap: Global, pairs: &[[u8; 2]]) -> Result<Vec<Act>, AllocError>
+    ensures { IfOk result (λ v. vec_items v ≡ filter_map act_of_pair pairs.now) }
+{
+    pairs.iter().filter_map(act_of_pair).collect(heap)
+}
+
 /// The acts of a field, a letter and a mark for each; none where it is not well formed.
-/// Memory is asked for only once the whole field is known to be well formed: a loop would have to go over it twice.
+/// Memory is asked for only once the whole field is known to be well formed.
+#[tactic(auto, using(crate::proofs::Acts::even, crate::proofs::Acts::odd))]
 pub(crate) fn acts_of(heap: Global, field: &[u8]) -> Result<Option<Vec<Act>>, AllocError>
     ensures { MatchResult result (λ o. option_map vec_items o ≡ acts field.now) (λ _. is_some (acts field.now) ≡ true) }
 {
-    match field {
-        [] => Ok(Some(Vec::new(heap))),
-        [letter, mark, rest @ ..] => {
-            let Some(act) = act_of(*letter, *mark) else {
-                return Ok(None);
-            };
-            let Some(mut acts) = acts_of(heap, rest)? else {
-                return Ok(None);
-            };
-            acts.insert(0, act)?;
-            Ok(Some(acts))
-        }
-        [_] => Ok(None),
+    let (pairs, []) = field.as_chunks::<2>() else {
+        return Ok(None);
+    };
+    if !are_acts(pairs) {
+        return Ok(None);
     }
+    Ok(Some(acts_among(heap, pairs)?))
 }
