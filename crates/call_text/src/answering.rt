@@ -44,7 +44,7 @@ fn write_items<S: DequeStore<u16>>(
 ) -> Result<(), AllocError>
     ensures { OnOk result (string_bytes out.new ≡ string_bytes out.old ++ item_fields (list_of_version (S.meaning store.now) version)) }
 {
-    // a store gives an item by its place, and has no iterator over them
+    // a store gives an item by its place, and has no iterator over them; a version that was not handed out has none
     for place in 0..store.length(version).unwrap_or(0) {
         let item = item_of(store, version, place);
         write!(out, "\t{item}")?;

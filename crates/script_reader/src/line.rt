@@ -30,7 +30,8 @@ impl<'a> Line<'a> {
         self.number
     }
 
-    /// The next field, empty where there is none: that is no number, and a line that was opened has each that is read.
+    /// The next field, empty where there is none, as in the definition. A line that was opened has each field that is
+    /// read, so an `Option` would only be unwrapped.
     pub(crate) fn field(&mut self) -> Field<'a>
         ensures { Passed self.old result self.new }
     {

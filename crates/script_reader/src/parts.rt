@@ -1,5 +1,5 @@
 // The parts of a text between separators.
-ghost use Rattle.std.specs.Prelude.{◌≡◌, ◌+◌, ◌≤◌, [], ◌∷◌, length, IfSome, MatchOption, position, slice_index_or, ◌==◌};
+ghost use Rattle.std.specs.Prelude.{◌≡◌, ◌+◌, [], ◌∷◌, length, IfSome, MatchOption, position, slice_index_or, ◌==◌};
 ghost use Rattle.script.specs.Tables.{parts};
 
 /// Where the byte stands first.

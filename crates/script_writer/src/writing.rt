@@ -53,7 +53,7 @@ fn put_all<X: Put>(out: &mut Vec<u8>, items: &[X]) -> Result<(), AllocError>
     Ok(())
 }
 
-// a goal: the marks, which are bytes too, are written as they are
+// A byte is put as a goal. The marks, which are bytes too, are written without `put`.
 
 impl Put for u8 {
     ghost text = { λ g. line (goal_row g) };

@@ -1,4 +1,5 @@
--- One call that a replayer carries out: what it answers and what the kind promises of it. The store and the slots stay the same places.
+-- One call that a replayer carries out: what it answers and what the kind promises of it.
+-- The store and the slots stay the same places.
 use Rattle.std.specs.Prelude.{◌≡◌, ℕ}
 use Rattle.store.specs.Calls.{Answered, Carries}
 use Rattle.store.specs.Meanings.{Meaning}

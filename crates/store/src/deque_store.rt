@@ -27,8 +27,8 @@ pub trait DequeStore<T: Copy> {
     /// What holds of every store.
     ghost sound: { (s : Self) → Sound (meaning s) };
 
-    // `goes` and `grows` tell of a step between two stores, which no invariant of a store can hold: so each contract has a
-    // clause `kind`.
+    // `goes` and `grows` tell of a step between two stores, which no invariant of a store can hold: so each call that may
+    // alter a store has a clause `kind`.
 
     /// What the kind promises of an accepted change: the store before, the version, the change, the store after.
     ghost goes: { Self → ℕ → Change T → Self → Type 0 };
@@ -139,8 +139,8 @@ pub trait DequeStore<T: Copy> {
     }
 
     // A version and a change stand apart, as a version stands alone in the questions: a pair would be made for each call
-    // only to be taken apart. The four changes by their names, here and under a reservation, are two lines each over
-    // `change` or `change_under`.
+    // only to be taken apart. The four changes keep the names that the subject gives them, here and under a reservation:
+    // each is two lines over `change` or `change_under`.
 
     /// A version with the item in front.
     fn push(&mut self, version: u16, item: T) -> Result<u16, Fault>

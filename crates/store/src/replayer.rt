@@ -67,6 +67,7 @@ impl<S> Replayer<'_, S> {
         let held = self.held_in(slot).ok_or(CallError::NoSlot)?;
         let mut reservation = Reservation { held };
         let answer = self.store.change_under(version, &change, &mut reservation);
+        // taken apart before a refusal leaves, since a reservation cannot fall
         let Reservation { held } = reservation;
         let (made, item) = answer?;
         self.slots[usize::from(slot)] = Some(held);

@@ -22,7 +22,7 @@ pub struct Kept {
 }
 
 impl Kept {
-    /// Why, of a reservation that still lies in its slot.
+    /// Why, without the reservation: the slot that it was taken from still holds it.
     pub(super) fn into_fault(self) -> Fault
         ensures { result ≡ self.fault }
     {

@@ -28,7 +28,7 @@ impl Fault {
         }
     }
 
-    /// The table that it names.
+    /// The table that it names, if it names one.
     pub fn table(self) -> Option<Table>
         ensures { table_of result ≡ (refusal_of self).1 }
     {

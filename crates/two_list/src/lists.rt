@@ -23,7 +23,7 @@ impl<'a, T: Copy> Lists<'a, T> {
         ensures { (result ≡ behind self.now.cells.places.now cell links) × (result < self.now.cells.filled) }
     {
         let mut at = cell;
-        // one step over and over, and no index: a fold over the numbers is no plainer
+        // one step over and over, and no index: a fold over the numbers leaves one more goal, and reads no plainer
         for _ in 0..links {
             at = self.cells.get(at).next;
         }
