@@ -39,8 +39,8 @@ impl<'a> Field<'a> {
         Ok(value)
     }
 
-    /// The field as one of the states. `number` differs by its test alone: one function for both would be as long, and
-    /// its contract would speak of any test.
+    /// The field as one of the states. `number` differs by its range alone: one function for both would be as long, and
+    /// its contract would speak of any range.
     #[tactic(auto, unfolding(script::specs::Fields::number_in, script::specs::Fields::state_in))]
     pub(crate) fn state(self, states: u8) -> Result<u8, Refusal>
         ensures { result ≡ state_in self.entry.line states self.entry.bytes.now }

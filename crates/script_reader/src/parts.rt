@@ -10,6 +10,7 @@ fn place_of(text: &[u8], byte: u8) -> Option<usize>
 }
 
 /// What stands before the first separator, and what stands behind it.
+#[tactic(auto, using(crate::proofs::Splitting::cut, crate::proofs::Splitting::whole))]
 pub fn split_once(text: &[u8], separator: u8) -> Option<(&[u8], &[u8])>
     ensures parts { MatchOption result (parts separator text.now ≡ text.now ∷ []) (λ p. parts separator text.now ≡ p.0.now ∷ parts separator p.1.now) }
     ensures shorter { IfSome result (λ p. length p.0.now + 1 + length p.1.now ≡ length text.now) }
