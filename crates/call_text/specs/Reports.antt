@@ -1,5 +1,5 @@
 -- The line that answers each line of a text of calls.
-use Rattle.std.specs.Prelude.{◌≡◌, ℕ, List, [], ◌∷◌, ◌++◌, map, length, codes, decimal, slice_index_or}
+use Rattle.std.specs.Prelude.{◌≡◌, ◌⊎◌, ℕ, List, [], ◌∷◌, ◌++◌, map, length, codes, decimal, slice_index_or}
 use Rattle.call_lines.specs.Lines.{reply_row}
 use Rattle.call_lines.specs.declared.lines.Line.{Line}
 use Rattle.call_lines.specs.declared.lines.Line.TheVariants.{Call as CallLine, List as ListLine}
@@ -44,7 +44,12 @@ pub record Reported {S : Type 0} (meaning : S → Meaning ℕ) (goes : S → ℕ
   pub replayed : Replayed meaning goes grows s p (map call_of lines) answers t q
   pub reported : text ≡ reports (meaning t).versions (zip lines answers)
 
--- the same of a store that was fresh, in the words of the history: it tells each answer about lists, and the lists
+-- where there is no memory for the text, none of the calls was carried out, or all of them were
+abbrev pub NoneOrAll : {S : Type 0} → (S → Meaning ℕ) → (S → ℕ → Change ℕ → S → Type 0) → (S → S → Type 0) → S → Slots → List Line → S → Slots → Type 0
+NoneOrAll meaning goes grows s p lines t q =
+    ((t ≡ s) × (q ≡ p)) ⊎ ((answers : List (Outcome ℕ)) × Replayed meaning goes grows s p (map call_of lines) answers t q)
+
+-- what is reported of a store that was fresh, in the words of the history: it tells each answer about lists, and the lists
 pub record Told (lines : List Line) (text : List ℕ) : Type 0 where
   pub answers : List (Outcome ℕ)
   pub every : length answers ≡ length lines

@@ -1,6 +1,6 @@
 // The lines that answer a text of calls.
-ghost use Rattle.std.specs.Prelude.{◌≡◌, ◌<◌, ◌++◌, length, map, slice_index, IfOk, OnOk};
-ghost use Rattle.call_text.specs.Reports.{Reported, call_of, item_fields, report, reports};
+ghost use Rattle.std.specs.Prelude.{◌≡◌, ◌<◌, ◌++◌, length, map, slice_index, IfOk, MatchResult, OnOk};
+ghost use Rattle.call_text.specs.Reports.{NoneOrAll, Reported, call_of, item_fields, report, reports};
 ghost use Rattle.std.specs.List.{zip};
 ghost use Rattle.std.specs.String.{string_bytes};
 ghost use Rattle.store.specs.Meanings.{list_of_version};
@@ -93,7 +93,7 @@ pub fn answer<S: DequeStore<u16>>(
     slots: &mut [Option<Held>],
     lines: &[Line],
 ) -> Result<Vec<u8>, AllocError>
-    ensures { IfOk result (λ text. Reported S.meaning S.goes S.grows store.old slots.old lines.now text.items store.new slots.new) }
+    ensures { MatchResult result (λ text. Reported S.meaning S.goes S.grows store.old slots.old lines.now text.items store.new slots.new) (λ _. NoneOrAll S.meaning S.goes S.grows store.old slots.old lines.now store.new slots.new) }
 {
     let calls = calls_of(heap, lines)?;
     let answers = replay(heap, store, slots, &calls)?;

@@ -3,6 +3,7 @@
 
 mod answering;
 mod errors;
+mod fields;
 mod parsing;
 mod reading;
 mod texts;

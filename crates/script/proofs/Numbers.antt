@@ -1,5 +1,5 @@
 -- Numbers: a field is read as a number below 1000 just where it is that number's decimal.
-use Rattle.std.proofs.Common.{◌≡◌, ℕ, ◌+◌, ◌-◌, ◌*◌, ◌/◌, ◌%◌, ◌<◌, ◌≤◌, not, ◌&&◌, eqb, ◌⊎◌, List, [], ◌∷◌, ◌++◌, Some, decimal, sym, ap, ◌∙◌, inl, inr, arith}
+use Rattle.std.proofs.Common.{◌≡◌, ℕ, ◌+◌, ◌-◌, ◌*◌, ◌/◌, ◌%◌, ◌^◌, ◌<◌, ◌≤◌, not, ◌&&◌, eqb, ◌⊎◌, List, [], ◌∷◌, ◌++◌, Some, decimal, sym, ap, ◌∙◌, inl, inr, arith}
 use Rattle.std.proofs.lemmas.Fmt.{decimal_digit, decimal_step, decimal_by_steps}
 use Rattle.std.proofs.ByRecursion.{All-append}
 use Rattle.std.proofs.lemmas.Bool.{cases_lt}
@@ -86,6 +86,6 @@ numeral_decimal v h = go (cases_lt v 10) (cases_lt v 100)
         three (48 + v / 100) (48 + v / 10 % 10) (48 + v % 10) (omega arith) (omega arith) (omega arith) (omega arith) (omega arith) (omega arith) (omega arith)
 
 -- no digit is a separator
-pub decimal_plain : (v : ℕ) → v < 1000 → All Above (decimal v)
+pub decimal_plain : (v : ℕ) → v < 2 ^ 64 → All Above (decimal v)
 decimal_plain v h =
-    decimal_by_steps (λ _ ds. All Above ds) (λ n small. (omega arith, tt)) (λ n ds large plain. All-append Above ds ((48 + n % 10) ∷ []) plain (omega arith, tt)) v (omega arith)
+    decimal_by_steps (λ _ ds. All Above ds) (λ n small. (omega arith, tt)) (λ n ds large plain. All-append Above ds ((48 + n % 10) ∷ []) plain (omega arith, tt)) v h

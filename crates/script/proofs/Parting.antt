@@ -74,18 +74,27 @@ pub record Plain (row : Row) : Type 0 where
 free : (s : ℕ) → s ≤ 10 → (row : Row) → Plain row → All (Free s) row
 free s h row p = All-weaker (All Above) (Free s) (All-weaker Above (λ b. eqb b s ≡ false) (λ b above. ne_eqb b s (λ e. omega arith))) row p.bytes
 
+-- a plain row is the fields of its line
+pub row_parts : (row : Row) → Plain row → parts 9 (join 9 row) ≡ row
+row_parts row p = parts_join 9 row p.some (free 9 (omega arith) row p)
+
+-- its line has a line feed at its end alone
+line_free : (row : Row) → Plain row → Free 10 (join 9 row)
+line_free row p = all_join (λ b. eqb b 10 ≡ false) 9 refl row (free 10 (omega arith) row p)
+
+-- so the first part of a text that begins with the line is the line
+pub line_parts : (row : Row) → Plain row → (rest : List ℕ) → parts 10 (line row ++ rest) ≡ join 9 row ∷ parts 10 rest
+line_parts row p rest = ap (parts 10) (append_assoc (join 9 row) (10 ∷ []) rest) ∙ parts_more 10 (join 9 row) rest (line_free row p)
+
 -- plain rows are the table of the text that they make
 table_join : (rs : List Row) → 0 < length rs → All Plain rs → table (join 10 (map (join 9) rs)) ≡ rs
 unfolding table
 table_join rs some h =
-    ap (map (parts 9)) (parts_join 10 (map (join 9) rs) (rw length-map some) (All-map (Free 10) (join 9) rs (All-weaker Plain (λ r. Free 10 (join 9 r)) lines rs h))) ∙ each rs h
+    ap (map (parts 9)) (parts_join 10 (map (join 9) rs) (rw length-map some) (All-map (Free 10) (join 9) rs (All-weaker Plain (λ r. Free 10 (join 9 r)) line_free rs h))) ∙ each rs h
   where
-    lines : (r : Row) → Plain r → Free 10 (join 9 r)
-    lines r p = all_join (λ b. eqb b 10 ≡ false) 9 refl r (free 10 (omega arith) r p)
-
     each : (qs : List Row) → All Plain qs → map (parts 9) (map (join 9) qs) ≡ qs
     each [] p = refl
-    each (q ∷ qs) p = cc (parts_join 9 q p.0.some (free 9 (omega arith) q p.0), each qs p.1)
+    each (q ∷ qs) p = cc (row_parts q p.0, each qs p.1)
 
 -- the lines of plain rows have those rows for their table
 pub table_lines : (rs : List Row) → All Plain rs → table (flat_map line rs) ≡ rs ++ end ∷ []

@@ -22,7 +22,7 @@ record Small (f : List ℕ) : Type 0 where
 
 -- so is a number of the text
 small : (v : ℕ) → v < 1000 → Small (decimal v)
-small v h = record { short = length-decimal-le 3 v (omega arith) (omega arith) (omega arith); plain = decimal_plain v h }
+small v h = record { short = length-decimal-le 3 v (omega arith) (omega arith) (omega arith); plain = decimal_plain v (omega arith) }
 
 -- a row that is plain, with a line of at most so many bytes
 record Fits (most : ℕ) (r : Row) : Type 0 where

@@ -87,6 +87,15 @@ slots_after m slots (MakeUnder i v c) true = slice_set slots i (option_map less_
 slots_after m slots (Reserve i n) true = slice_set slots i (Some (reservation_of m n).held)
 slots_after m slots (Close i) true = slice_set slots i None
 
+-- how a call moves the credit: an accepted change takes one of it or none, and no other call moves a share
+abbrev pub Spends : {T : Type 0} → Meaning T → Call T → Bool → Meaning T → Type 0
+Spends m call false t = t.shares ≡ m.shares
+Spends m (Ask q) true t = t.shares ≡ m.shares
+Spends m (Make v c) true t = (credit t ≤ credit m) × (credit m ≤ credit t + 1)
+Spends m (MakeUnder i v c) true t = (credit t ≤ credit m) × (credit m ≤ credit t + 1)
+Spends m (Reserve i n) true t = t.shares ≡ m.shares
+Spends m (Close i) true t = t.shares ≡ m.shares
+
 -- one call, from meaning m and slots p to meaning t and slots q
 pub record Answered {T : Type 0} (m : Meaning T) (p : Slots) (call : Call T) (t : Meaning T) (q : Slots) (a : Outcome T) : Type 0 where
   pub answer : reply_of a ≡ reply m p call
@@ -95,8 +104,7 @@ pub record Answered {T : Type 0} (m : Meaning T) (p : Slots) (call : Call T) (t 
   pub slots : q ≡ slots_after m p call (accepted a)
   pub longest : t.longest ≡ m.longest
   pub number : t.number ≡ m.number
-  pub lower : credit t ≤ credit m
-  pub near : credit m ≤ credit t + 1
+  pub credit : Spends m call (accepted a) t
 
 -- what the kind promises of a call from store s to store t: a question and a refusal leave the store as it was
 abbrev pub Carries : {S T : Type 0} → (S → ℕ → Change T → S → Type 0) → (S → S → Type 0) → S → Call T → Bool → S → Type 0

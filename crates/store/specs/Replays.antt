@@ -1,8 +1,8 @@
 -- Any list of calls on a store, one after the other, and what holds of the store after them.
-use Rattle.std.specs.Prelude.{◌≡◌, ℕ, ◌+◌, cond, List, [], ◌∷◌, ◌++◌, map, length, Some, None, Option, ◌==◌}
+use Rattle.std.specs.Prelude.{◌≡◌, ℕ, ◌+◌, ◌≤◌, cond, List, [], ◌∷◌, ◌++◌, map, length, Some, None, Option, ◌==◌}
 use Rattle.store.specs.Calls.{Slots, Answered, Carries}
 use Rattle.store.specs.History.{Fed, grown, history, tellings}
-use Rattle.store.specs.Meanings.{Meaning}
+use Rattle.store.specs.Meanings.{Meaning, credit}
 use Rattle.store.specs.Replies.{Outcome, accepted, of_lists, reply_of}
 use Rattle.store.specs.declared.calls.Call.{Call}
 use Rattle.store.specs.declared.reservations.Held.{Held}
@@ -42,6 +42,9 @@ module _ {S T : Type 0} (meaning : S → Meaning T) (goes : S → ℕ → Change
     pub told : map (λ b. of_lists (reply_of b)) bs ≡ tellings (meaning s).versions (feeds cs bs)
     -- promised goes up and down with what the open reservations have left
     pub promised : (meaning t).promised + pledged (meaning s).number p ≡ (meaning s).promised + pledged (meaning s).number q
+    -- the credit falls by no more than one for each version handed out, and never rises
+    pub spent : credit (meaning s) + length (meaning s).versions ≤ credit (meaning t) + length (meaning t).versions
+    pub lower : credit (meaning t) ≤ credit (meaning s)
     pub longest : (meaning t).longest ≡ (meaning s).longest
     pub number : (meaning t).number ≡ (meaning s).number
     -- what the kind promises of every call
