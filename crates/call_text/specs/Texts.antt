@@ -41,9 +41,10 @@ Read text (Ok t) = IsCallText text t.opening t.lines.items
 Read text (Err (BadLine n)) = FirstBad text n
 Read text (Err Memory) = Unit {0}
 
--- a text of calls has no bad line, and a text with a bad line is none and has no other first one
+-- a text of calls has no other reading and no bad line, and a text with a bad line has no reading and no other first one
 abbrev pub Settled : List ℕ → Result CallText TextError → Type 0
-Settled text (Ok t) = (n : ℕ) → ¬ FirstBad text n
+Settled text (Ok t) =
+    ((o : Opening) (lines : List Line) → IsCallText text o lines → (o ≡ t.opening) × (lines ≡ t.lines.items)) × ((n : ℕ) → ¬ FirstBad text n)
 Settled text (Err (BadLine n)) =
     ((o : Opening) (lines : List Line) → ¬ IsCallText text o lines) × ((m : ℕ) → FirstBad text m → m ≡ n)
 Settled text (Err Memory) = Unit {0}

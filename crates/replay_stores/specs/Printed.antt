@@ -4,7 +4,6 @@ use Rattle.call_lines.specs.declared.lines.Line.{Line}
 use Rattle.call_lines.specs.declared.lines.Opening.{Opening}
 use Rattle.call_text.specs.Reports.{Reported, Told}
 use Rattle.call_text.specs.Texts.{FirstBad, IsCallText}
-use Rattle.replay_stores.specs.declared.printing.TheConstants.{LONGEST, SLOTS}
 use Rattle.script.specs.Tables.{line}
 use Rattle.store.specs.Calls.{Slots}
 use Rattle.two_list.specs.Stores.{Grows, Opens, Turns, meaning_of}
@@ -12,13 +11,21 @@ use Rattle.two_list.specs.declared.rows.ListCell.{ListCell}
 use Rattle.two_list.specs.declared.rows.VersionRow.{VersionRow}
 use Rattle.two_list.specs.declared.two_list_store.TwoListStore.{TwoListStore}
 
+-- a text may have this many bytes
+abbrev pub longest_text : ℕ
+longest_text = 8000000
+
+-- reservations can lie open in this many slots
+abbrev pub free_slots : Slots
+free_slots = replicate 16 None
+
 -- the lines were answered on a two-list store that was opened over these tables, with free slots
 pub record AnsweredOver (versions : List VersionRow) (items : List ℕ) (cells : List ListCell) (o : Opening) (lines : List Line) (printed : List ℕ) : Type 0 where
   pub store : TwoListStore ℕ
   pub opens : Opens versions items cells o.longest o.number store
   pub after : TwoListStore ℕ
   pub slots : Slots
-  pub reported : Reported (λ s. meaning_of s) (λ s v c t. Turns s v c t) (λ s t. Grows s t) store (replicate SLOTS None) lines printed after slots
+  pub reported : Reported (λ s. meaning_of s) (λ s v c t. Turns s v c t) (λ s t. Grows s t) store free_slots lines printed after slots
   -- so what they tell of lists is as the history tells
   pub told : Told lines printed
 
@@ -37,6 +44,6 @@ abbrev pub bad_line : ℕ → List ℕ
 bad_line n = line (codes "bad" ∷ decimal n ∷ [])
 
 pub data Printed (text printed : List ℕ) : Type 0 where
-  too_long : LONGEST < length text → printed ≡ bad_line 0 → Printed text printed
-  bad : {n : ℕ} → length text ≤ LONGEST → FirstBad text n → printed ≡ bad_line n → Printed text printed
-  answered : {o : Opening} {lines : List Line} → length text ≤ LONGEST → IsCallText text o lines → AnsweredOnTwoLists o lines printed → Printed text printed
+  too_long : longest_text < length text → printed ≡ bad_line 0 → Printed text printed
+  bad : {n : ℕ} → length text ≤ longest_text → FirstBad text n → printed ≡ bad_line n → Printed text printed
+  answered : {o : Opening} {lines : List Line} → length text ≤ longest_text → IsCallText text o lines → AnsweredOnTwoLists o lines printed → Printed text printed

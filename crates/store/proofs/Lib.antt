@@ -1,4 +1,5 @@
 pub mod Asking
+pub mod Credit
 pub mod Ends
 pub mod Pledges
 pub mod Replays

@@ -2,11 +2,12 @@
 use Rattle.std.proofs.Common.{◌≡◌, ℕ, ◌+◌, ◌<◌, ◌≤◌, Bool, true, false, List, [], ◌∷◌, ◌++◌, map, length, get_or, take, refl, ap, ◌∙◌, arith}
 use Rattle.std.proofs.lemmas.Bool.Decides.{nat_tests}
 use Rattle.std.proofs.lemmas.List.{length_push, map_push, take_all, take_more}
+use Rattle.store.proofs.Credit.{runs_spent, runs_sure}
 use Rattle.store.proofs.Pledges.{accounted}
-use Rattle.store.specs.Calls.{Slots, Answered, Carries, Spends, reply}
+use Rattle.store.specs.Calls.{Slots, Answered, Carries, reply}
 use Rattle.store.specs.History.{Fed, fed, grown, told, tellings}
 use Rattle.store.specs.Kinds.{Chains}
-use Rattle.store.specs.Meanings.{Meaning, credit}
+use Rattle.store.specs.Meanings.{Meaning}
 use Rattle.store.specs.Replays.{feeds, pledged, Runs, none, more, Replayed}
 use Rattle.store.specs.Replies.{Outcome, reply_of, accepts, accepted, of_lists}
 use Rattle.store.specs.declared.calls.Call.{Call}
@@ -49,16 +50,6 @@ module _ {T : Type 0} where
   answer_tells : (m : Meaning T) (p : Slots) (c : Call T) (a : Outcome T) → reply_of a ≡ reply m p c → of_lists (reply_of a) ≡ told m.versions c (accepted a)
   answer_tells m p c a e = rw e (reply_tells m p c)
 
--- a call takes no more of the credit than the versions that it hands out
-module _ {T : Type 0} where
-  spent_by : (m t : Meaning T) (c : Call T) (b : Bool) → Spends m c b t → t.versions ≡ fed m.versions c b → (credit m + length m.versions ≤ credit t + length t.versions) × (credit t ≤ credit m)
-  spent_by m t c false spends e = grind arith
-  spent_by m t (Ask q) true spends e = grind arith
-  spent_by m t (Make v d) true spends e = grind (arith, length_push)
-  spent_by m t (MakeUnder i v d) true spends e = grind (arith, length_push)
-  spent_by m t (Reserve i n) true spends e = grind arith
-  spent_by m t (Close i) true spends e = grind arith
-
 -- any kind of store
 module _ {S T : Type 0} (goes : S → ℕ → Change T → S → Type 0) (grows : S → S → Type 0) where
   carried_grows : Chains grows → (s : S) (c : Call T) (b : Bool) (t : S) → Carries goes grows s c b t → grows s t
@@ -100,13 +91,6 @@ module _ {S T : Type 0} {meaning : S → Meaning T} {goes : S → ℕ → Change
         let last : (meaning t).promised + pledged (meaning s).number o ≡ (meaning r).promised + pledged (meaning s).number q = rw (runs_number before) at (accounted (meaning r) o c (meaning t) q a answered) in
         omega arith
 
-    runs_spent : {cs : List (Call T)} {bs : List (Outcome T)} {t : S} {q : Slots} → Runs meaning goes grows s p cs bs t q → (credit (meaning s) + length (meaning s).versions ≤ credit (meaning t) + length (meaning t).versions) × (credit (meaning t) ≤ credit (meaning s))
-    runs_spent none = (omega arith, omega arith)
-    runs_spent (more {cs} {bs} {r} {o} {c} {a} {t} before answered carried) =
-        let earlier = runs_spent before in
-        let last = spent_by (meaning r) (meaning t) c (accepted a) answered.credit answered.versions in
-        (omega arith, omega arith)
-
     runs_grow : Chains grows → {cs : List (Call T)} {bs : List (Outcome T)} {t : S} {q : Slots} → Runs meaning goes grows s p cs bs t q → grows s t
     runs_grow chain none = chain.same s
     runs_grow chain (more {cs} {bs} {r} {o} {c} {a} {t} before answered carried) =
@@ -123,6 +107,7 @@ module _ {S T : Type 0} {meaning : S → Meaning T} {goes : S → ℕ → Change
           promised = runs_promised runs;
           spent = (runs_spent runs).0;
           lower = (runs_spent runs).1;
+          sure = runs_sure runs;
           longest = runs_longest runs;
           number = runs_number runs;
           kind = runs_grow chain runs;

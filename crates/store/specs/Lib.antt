@@ -7,6 +7,7 @@ pub mod Kinds
 pub mod Replies
 pub mod History
 pub mod Calls
+pub mod Room
 pub mod Replays
 pub mod Replayers
 pub mod Worked

@@ -1,9 +1,10 @@
 -- Any list of calls on a store, one after the other, and what holds of the store after them.
-use Rattle.std.specs.Prelude.{◌≡◌, ℕ, ◌+◌, ◌≤◌, cond, List, [], ◌∷◌, ◌++◌, map, length, Some, None, Option, ◌==◌}
+use Rattle.std.specs.Prelude.{◌≡◌, ℕ, ◌+◌, ◌≤◌, cond, List, [], ◌∷◌, ◌++◌, map, length, Some, None, All, Option, ◌==◌}
 use Rattle.store.specs.Calls.{Slots, Answered, Carries}
 use Rattle.store.specs.History.{Fed, grown, history, tellings}
 use Rattle.store.specs.Meanings.{Meaning, credit}
 use Rattle.store.specs.Replies.{Outcome, accepted, of_lists, reply_of}
+use Rattle.store.specs.Room.{FindsRoom, IsPlainChange}
 use Rattle.store.specs.declared.calls.Call.{Call}
 use Rattle.store.specs.declared.reservations.Held.{Held}
 use Rattle.store.specs.declared.changes.Change.{Change}
@@ -45,6 +46,8 @@ module _ {S T : Type 0} (meaning : S → Meaning T) (goes : S → ℕ → Change
     -- the credit falls by no more than one for each version handed out, and never rises
     pub spent : credit (meaning s) + length (meaning s).versions ≤ credit (meaning t) + length (meaning t).versions
     pub lower : credit (meaning t) ≤ credit (meaning s)
+    -- and changes that are no more than the credit over what is promised all find room
+    pub sure : All IsPlainChange cs → (meaning s).promised + length cs ≤ credit (meaning s) → All FindsRoom bs
     pub longest : (meaning t).longest ≡ (meaning s).longest
     pub number : (meaning t).number ≡ (meaning s).number
     -- what the kind promises of every call

@@ -34,6 +34,7 @@ fn parse_about(word: &[u8], version: &[u8]) -> Option<Question>
     }
 }
 
+/// A call with one field behind its word.
 fn parse_one(word: &[u8], field: &[u8]) -> Option<Call<u16>>
     ensures { Reads call_row CallFits (word.now ∷ field.now ∷ []) result }
 {
@@ -47,6 +48,7 @@ fn parse_one(word: &[u8], field: &[u8]) -> Option<Call<u16>>
     }
 }
 
+/// A call with two fields behind its word.
 fn parse_two(word: &[u8], first: &[u8], second: &[u8]) -> Option<Call<u16>>
     ensures { Reads call_row CallFits (word.now ∷ first.now ∷ second.now ∷ []) result }
 {
@@ -69,6 +71,7 @@ fn parse_under(held: &[u8], change: &[&[u8]]) -> Option<Call<u16>>
     Some(Call::MakeUnder(slot(held)?, version, change))
 }
 
+/// Any call.
 pub(super) fn parse_call(fields: &[&[u8]]) -> Option<Call<u16>>
     ensures { Reads call_row CallFits (map (λ f. f.now) fields.now) result }
 {

@@ -8,6 +8,7 @@ use super::calls::parse_call;
 use crate::fields::{short, store_number};
 use call_lines::{Line, Opening};
 
+/// The first line.
 pub(crate) fn parse_opening(fields: &[&[u8]]) -> Option<Opening>
     ensures { Reads opening_row OpeningFits (map (λ f. f.now) fields.now) result }
 {
@@ -23,6 +24,7 @@ pub(crate) fn parse_opening(fields: &[&[u8]]) -> Option<Opening>
     }
 }
 
+/// Any further line.
 pub(crate) fn parse_line(fields: &[&[u8]]) -> Option<Line>
     ensures { Reads line_row LineFits (map (λ f. f.now) fields.now) result }
 {
