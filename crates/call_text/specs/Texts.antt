@@ -24,8 +24,8 @@ pub record IsCallText (text : List ℕ) (o : Opening) (lines : List Line) : Type
 abbrev pub BeginsWithNone : {A : Type 0} → (A → Row) → (A → Type 0) → List ℕ → Type 0
 BeginsWithNone {A} row Fits bytes = (a : A) (rest : List ℕ) → Fits a → bytes ≢ line (row a) ++ rest
 
--- the first bad line of a text, counted from 1: the opening is bad, or what stands in front is a text of calls and more
--- stands behind it, but no line
+-- the first bad line of a text, counted from 1: the opening is bad, or a text of calls stands in front, and what stands
+-- behind it is not empty and begins with no line
 pub data FirstBad (text : List ℕ) : ℕ → Type 0 where
   opening : BeginsWithNone opening_row OpeningFits text → FirstBad text 1
   later : {front rest : List ℕ} {o : Opening} {lines : List Line} → text ≡ front ++ rest → IsCallText front o lines → rest ≢ [] → BeginsWithNone line_row LineFits rest → FirstBad text (length lines + 2)

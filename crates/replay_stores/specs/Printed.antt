@@ -43,6 +43,7 @@ pub record AnsweredOnTwoLists (o : Opening) (lines : List Line) (printed : List 
 abbrev pub bad_line : ℕ → List ℕ
 bad_line n = line (codes "bad" ∷ decimal n ∷ [])
 
+-- the answers are printed for a text of calls, and which line is bad for any other; 0 stands for a text that is too long
 pub data Printed (text printed : List ℕ) : Type 0 where
   too_long : longest_text < length text → printed ≡ bad_line 0 → Printed text printed
   bad : {n : ℕ} → length text ≤ longest_text → FirstBad text n → printed ≡ bad_line n → Printed text printed
