@@ -3,10 +3,10 @@ use Rattle.std.proofs.Common.{◌≡◌, ℕ, List, [], ◌∷◌, ap, arith, co
 use Rattle.call_lines.specs.Lines.{call_row, change_row}
 use Rattle.script.specs.Tables.{Row}
 use Rattle.store.specs.declared.calls.Call.{Call}
-use Rattle.store.specs.declared.calls.Call.TheVariants.{Ask, Make, MakeUnder, Reserve, Close}
-use Rattle.store.specs.declared.calls.Question.TheVariants.{Longest, Number, Credit, Promised, Length, Item, Front, Back}
+use Rattle.store.specs.declared.calls.Call.TheVariants.{Ask, Make, MakeUnder}
+use Rattle.store.specs.declared.calls.Question.TheVariants.{Longest}
 use Rattle.store.specs.declared.changes.Change.{Change}
-use Rattle.store.specs.declared.changes.Change.TheVariants.{Push, Inject, Pop, Eject}
+use Rattle.store.specs.declared.changes.Change.TheVariants.{Push}
 
 -- the first byte of the first field
 abbrev first_byte : Row → ℕ
@@ -19,16 +19,5 @@ under_only P held fields then (MakeUnder i v c) e =
     let r : fields ≡ change_row v c = cc in
     then i v c h r
 under_only P held fields then (Ask Longest) e = absurd (omega (arith, ap first_byte e))
-under_only P held fields then (Ask Number) e = absurd (omega (arith, ap first_byte e))
-under_only P held fields then (Ask Credit) e = absurd (omega (arith, ap first_byte e))
-under_only P held fields then (Ask Promised) e = absurd (omega (arith, ap first_byte e))
-under_only P held fields then (Ask (Length v)) e = absurd (omega (arith, ap first_byte e))
-under_only P held fields then (Ask (Item v place)) e = absurd (omega (arith, ap first_byte e))
-under_only P held fields then (Ask (Front v)) e = absurd (omega (arith, ap first_byte e))
-under_only P held fields then (Ask (Back v)) e = absurd (omega (arith, ap first_byte e))
 under_only P held fields then (Make v (Push x)) e = absurd (omega (arith, ap first_byte e))
-under_only P held fields then (Make v (Inject x)) e = absurd (omega (arith, ap first_byte e))
-under_only P held fields then (Make v Pop) e = absurd (omega (arith, ap first_byte e))
-under_only P held fields then (Make v Eject) e = absurd (omega (arith, ap first_byte e))
-under_only P held fields then (Reserve i n) e = absurd (omega (arith, ap first_byte e))
-under_only P held fields then (Close i) e = absurd (omega (arith, ap first_byte e))
+under_only P held fields then other e = absurd (omega (arith, ap first_byte e))
